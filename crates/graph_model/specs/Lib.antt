@@ -1,0 +1,4 @@
+pub mod EdgeText
+pub mod Programs
+pub mod Rounds
+pub mod Answer
