@@ -1,1 +1,4 @@
+pub mod RoundLemmas
+pub mod SplitLemmas
+pub mod TextLemmas
 pub mod WorkedExamples

@@ -1,13 +1,15 @@
 -- The definitions, run on worked examples: each value here was computed by hand.
-use Rattle.std.proofs.Common.{◌≡◌, ℕ, ◌^◌, List, [], ◌∷◌, ◌++◌, Some, None, true, false, refl, codes}
+use Rattle.std.proofs.Common.{◌≡◌, ℕ, ◌-◌, ◌^◌, ◌<◌, zero, suc, List, [], ◌∷◌, ◌++◌, Some, None, true, false, refl, ap, arith, codes}
 use Rattle.graph_model.specs.declared.edge.Edge.{Edge}
 use Rattle.graph_model.specs.declared.edge.TextFault.TheVariants.{BadLine, TooLong}
 use Rattle.graph_model.specs.declared.edge.Meaning.TheVariants.{Nothing, One, Malformed}
 use Rattle.std.specs.Fmt.{digits}
 use Rattle.graph_model.specs.EdgeText.{edges_of_text, refusal, refusal_so_far, text_limit, edges_of_lines, ended_lines, last_part, meaning, number, first_malformed}
 use Rattle.graph_model.specs.Programs.{Rules, plus, bfs, labels, sssp, degrees, pagerank}
-use Rattle.graph_model.specs.Rounds.{values}
+use Rattle.graph_model.specs.declared.value.Value.{Value}
+use Rattle.graph_model.specs.Rounds.{values, value_at, Repeats, IsLastRound, IsUnsettled}
 use Rattle.graph_model.specs.Answer.{text_of_values}
+use Rattle.graph_model.specs.Partitions.{ceil_div, part_count, first_vertex, partition_of, master_of}
 
 -- the bytes of a line that a line feed ends
 abbrev text_line : List ℕ → List ℕ
@@ -69,6 +71,38 @@ distances_of_a_detour = refl
 distances_repeat : values (sssp 0) 3 (edges_of_text 3 false detour) 3 ≡ values (sssp 0) 3 (edges_of_text 3 false detour) 2
 unfolding detour values edges_of_lines ended_lines last_part meaning number first_malformed digits
 distances_repeat = refl
+
+-- round 3 is the last one within a limit of 3, and within a limit of 2 there is none
+edges_of_detour : List Edge
+edges_of_detour = edges_of_text 3 false detour
+
+main_of_vertex_1 : List Value → ℕ
+main_of_vertex_1 found = (value_at found 1).main
+
+round_1_is_new : ¬ (Repeats (sssp 0) 3 edges_of_detour 1)
+unfolding edges_of_detour main_of_vertex_1 detour values edges_of_lines ended_lines last_part meaning number first_malformed digits
+round_1_is_new repeats = let same : ◌≡◌ {A = ℕ} 5 (2 ^ 64 - 1) = ap main_of_vertex_1 repeats.1 in omega arith
+
+round_2_is_new : ¬ (Repeats (sssp 0) 3 edges_of_detour 2)
+unfolding edges_of_detour main_of_vertex_1 detour values edges_of_lines ended_lines last_part meaning number first_malformed digits
+round_2_is_new repeats = let same : ◌≡◌ {A = ℕ} 2 5 = ap main_of_vertex_1 repeats.1 in omega arith
+
+new_below_3 : (round : ℕ) → round < 3 → ¬ (Repeats (sssp 0) 3 edges_of_detour round)
+new_below_3 zero below = λ repeats. omega (arith, repeats.0)
+new_below_3 (suc zero) below = round_1_is_new
+new_below_3 (suc (suc zero)) below = round_2_is_new
+new_below_3 (suc (suc (suc round))) below = omega arith
+
+round_3_is_last : IsLastRound (sssp 0) 3 edges_of_detour 3 3
+unfolding edges_of_detour
+round_3_is_last = record {
+  fixed = λ k fixed. absurd cc;
+  repeats = λ _. ((omega arith, distances_repeat), omega arith);
+  least = λ _. new_below_3;
+}
+
+unsettled_within_2 : IsUnsettled (sssp 0) 3 edges_of_detour 2
+unsettled_within_2 = record { open_ended = refl; never = λ round within. new_below_3 round (omega arith) }
 
 -- Degrees: two edges from 0 to 1.
 degrees_of_a_double_edge : text_of_values true (values degrees 2 (edges_of_text 2 false (text_line (codes "0 1") ++ text_line (codes "0 1"))) 1)
@@ -221,3 +255,28 @@ limit_of_small_chunks = refl
 
 limit_of_large_chunks : text_limit 4096 ≡ 1099511627776
 limit_of_large_chunks = refl
+
+-- Partitions: five vertices on two engines, at most two vertices in each.
+parts_of_five : part_count 5 2 2 ≡ 4
+parts_of_five = refl
+
+span_of_five : ceil_div 5 4 ≡ 2
+span_of_five = refl
+
+ranges_of_five : first_vertex 5 4 0 ∷ first_vertex 5 4 1 ∷ first_vertex 5 4 2 ∷ first_vertex 5 4 3 ∷ first_vertex 5 4 4 ∷ [] ≡ 0 ∷ 2 ∷ 4 ∷ 5 ∷ 5 ∷ []
+ranges_of_five = refl
+
+last_vertex_of_five : (partition_of 5 4 4 ≡ 2) × (master_of 2 2 ≡ 0)
+last_vertex_of_five = (refl, refl)
+
+-- more partitions than a job may have
+parts_of_a_thousand : part_count 1000 1 10 ≡ 100
+parts_of_a_thousand = refl
+
+-- without vertices, one empty partition for each engine
+parts_of_none : part_count 0 3 2097152 ≡ 3
+parts_of_none = refl
+
+-- as many as there can be on eight engines with the default most
+parts_of_the_most : part_count 67108864 8 2097152 ≡ 32
+parts_of_the_most = refl

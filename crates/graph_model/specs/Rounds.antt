@@ -1,9 +1,13 @@
 -- The values of all vertices, round by round, and the last round.
 use Rattle.std.specs.Prelude.{◌≡◌, ℕ, ◌≤◌, ◌<◌, zero, suc, pred, List, map, filter, count_by, ◌==◌, Some, None, min, fold, slice_index_or}
-use Rattle.std.specs.List.{filter_map, range_with_len}
+use Rattle.std.specs.List.{All, filter_map, range_with_len}
 use Rattle.graph_model.specs.declared.edge.Edge.{Edge}
 use Rattle.graph_model.specs.declared.value.Value.{Value}
 use Rattle.graph_model.specs.Programs.{Rules, CAP}
+
+-- both ends of each edge are vertices
+abbrev pub IsWithinGraph : ℕ → List Edge → Type 0
+IsWithinGraph vertices edges = All (λ (e : Edge). (e.src < vertices) × (e.dst < vertices)) edges
 
 -- the merge of what was sent to one vertex
 abbrev pub merged : Rules → List ℕ → ℕ
