@@ -1,4 +1,5 @@
 pub mod RoundLemmas
+pub mod SentLemmas
 pub mod SplitLemmas
 pub mod TextLemmas
 pub mod WorkedExamples

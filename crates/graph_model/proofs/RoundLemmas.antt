@@ -1,10 +1,53 @@
 -- What a loop over rounds needs: the values of one round from those of the round before, and which round is the last.
-use Rattle.std.proofs.Common.{◌≡◌, ℕ, ◌+◌, ◌<◌, ◌≤◌, zero, suc, pred, List, length, Option, Some, None, ◌⊎◌, inl, inr, refl, sym, ◌∙◌, ap, subst, le_antisymm, add-one, arith}
-use Rattle.std.proofs.lemmas.List.FromFn.{length-map-range_with_len}
+use Rattle.std.proofs.Common.{◌≡◌, ℕ, ◌+◌, ◌<◌, ◌≤◌, zero, suc, pred, List, [], ◌∷◌, ◌++◌, length, get_or, zero-add, true, false, ◌==◌, ◌&&◌, Option, Some, None, ◌⊎◌, inl, inr, refl, sym, ◌∙◌, ap, subst, le_antisymm, add-one, arith}
+use Rattle.std.proofs.lemmas.Bool.{and_parts, and_from, both_ways, eqb-true, eq-eqb}
+use Rattle.std.proofs.lemmas.List.FromFn.{fill_by_all, length-map-range_with_len, get_or-map-range_with_len, map-range_with_len_more}
 use Rattle.graph_model.specs.declared.edge.Edge.{Edge}
 use Rattle.graph_model.specs.declared.value.Value.{Value}
 use Rattle.graph_model.specs.Programs.{Rules}
-use Rattle.graph_model.specs.Rounds.{values, first_values, next_values, Repeats, IsLastRound, IsUnsettled}
+use Rattle.graph_model.specs.Rounds.{of_vertices, values, first_values, next_values, Repeats, IsLastRound, IsUnsettled}
+
+-- One for each vertex.
+pub length-of_vertices : {X : Type 0} (n : ℕ) (f : ℕ → X) → length (of_vertices n f) ≡ n
+length-of_vertices n f = length-map-range_with_len f 0 n
+
+pub get_or-of_vertices : {X : Type 0} (n : ℕ) (f : ℕ → X) (v : ℕ) (d : X) → v < n → get_or (of_vertices n f) v d ≡ f v
+get_or-of_vertices n f v d below = get_or-map-range_with_len f 0 n v v d below (zero-add v)
+
+-- a list that has f of each vertex at its place
+pub of_vertices_is : {X : Type 0} (f : ℕ → X) (xs : List X) (n : ℕ) (d : X) → length xs ≡ n →
+    ((v : ℕ) → v < n → get_or xs v d ≡ f v) → xs ≡ of_vertices n f
+of_vertices_is f xs n d long each = fill_by_all f xs n d long each
+
+-- two functions that agree at each vertex
+pub of_vertices_same : {X : Type 0} (n : ℕ) (f g : ℕ → X) → ((v : ℕ) → v < n → f v ≡ g v) → of_vertices n f ≡ of_vertices n g
+of_vertices_same zero f g each = refl
+of_vertices_same (suc n) f g each =
+    of_vertices_is g (of_vertices (suc n) f) (suc n) (f 0) (length-of_vertices (suc n) f)
+    (λ v below. get_or-of_vertices (suc n) f v (f 0) below ∙ each v below)
+
+-- one vertex more
+pub of_vertices_more : {X : Type 0} (f : ℕ → X) (xs ys : List X) (n : ℕ) (x : X) → xs ≡ of_vertices n f → x ≡ f n →
+    ys ≡ xs ++ x ∷ [] → ys ≡ of_vertices (n + 1) f
+of_vertices_more f xs ys n x is_xs is_x is_ys =
+    let more : of_vertices (n + 1) f ≡ of_vertices n f ++ f n ∷ [] = map-range_with_len_more f 0 n n (zero-add n) in
+    cc
+
+-- The test of two values.
+pub same_value : (x y : Value) → ((x.main == y.main) && (x.side == y.side)) ≡ true → x ≡ y
+same_value x y test =
+    let parts : ((x.main == y.main) ≡ true) × ((x.side == y.side) ≡ true) = and_parts (x.main == y.main) (x.side == y.side) test in
+    let mains : x.main ≡ y.main = eqb-true x.main y.main parts.0 in
+    let sides : x.side ≡ y.side = eqb-true x.side y.side parts.1 in
+    let with_main : ℕ → Value = λ main. record { main = main; side = x.side } in
+    let with_side : ℕ → Value = λ side. record { main = y.main; side = side } in
+    ap with_main mains ∙ ap with_side sides
+
+pub other_value : (x y : Value) → ((x.main == y.main) && (x.side == y.side)) ≡ false → ¬ (x ≡ y)
+other_value x y test same =
+    let mains : (x.main == y.main) ≡ true = eq-eqb x.main y.main (ap (λ (v : Value). v.main) same) in
+    let sides : (x.side == y.side) ≡ true = eq-eqb x.side y.side (ap (λ (v : Value). v.side) same) in
+    both_ways ((x.main == y.main) && (x.side == y.side)) test (and_from (x.main == y.main) (x.side == y.side) mains sides)
 
 -- One round more.
 pub values-zero : (p : Rules) (vertices : ℕ) (edges : List Edge) → values p vertices edges 0 ≡ first_values p vertices edges
@@ -19,8 +62,8 @@ values-suc p vertices edges round = rw add-one refl
 -- a round has one value for each vertex
 pub length-values : (p : Rules) (vertices : ℕ) (edges : List Edge) (round : ℕ) → length (values p vertices edges round) ≡ vertices
 unfolding values
-length-values p vertices edges zero = length-map-range_with_len _ 0 vertices
-length-values p vertices edges (suc round) = length-map-range_with_len _ 0 vertices
+length-values p vertices edges zero = length-of_vertices vertices _
+length-values p vertices edges (suc round) = length-of_vertices vertices _
 
 -- the values after one round more, computed from those before it
 pub values_step : (p : Rules) (vertices : ℕ) (edges : List Edge) (round : ℕ) (before after : List Value) →

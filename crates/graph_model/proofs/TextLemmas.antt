@@ -12,7 +12,7 @@ use Rattle.std.proofs.lemmas.List.Elements.{All-append}
 use Rattle.graph_model.specs.declared.edge.Edge.{Edge}
 use Rattle.graph_model.specs.declared.edge.Meaning.TheVariants.{Nothing}
 use Rattle.graph_model.specs.declared.edge.TextFault.{TextFault}
-use Rattle.graph_model.specs.EdgeText.{is_line_feed, parts, all_but_last, last_of, ended_lines, last_part, last_line, number, has_bytes, edge_of, edge_of_fields, begins_comment, fields, meaning_of_fields, meaning, directions, edges_said, edges_of_lines, is_malformed, first_malformed, refused_for, refusal_so_far, lines_within, refusal}
+use Rattle.graph_model.specs.EdgeText.{is_line_feed, parts, all_but_last, last_of, ended_lines, last_part, last_line, lines, number, has_bytes, edge_of, edge_of_fields, begins_comment, fields, meaning_of_fields, meaning, directions, edges_said, edges_of_lines, is_malformed, first_malformed, refused_for, refusal_so_far, lines_within, refusal}
 use Rattle.std.specs.Str.Lines.{strip_carriage_return}
 
 -- Parts: there is always one.
@@ -159,11 +159,27 @@ pub length-ended_lines-le : (text : List ℕ) → length (ended_lines text) ≤ 
 unfolding ended_lines
 length-ended_lines-le text = let count = counted_split is_line_feed text in omega arith
 
+length-last_line-le : (last : List ℕ) → length (last_line last) ≤ length last
+length-last_line-le [] = omega arith
+length-last_line-le (b ∷ bs) = omega arith
+
+pub length-lines-le : (text : List ℕ) → length (lines text) ≤ length text
+unfolding ended_lines last_part
+length-lines-le text =
+    let count = counted_split is_line_feed text in
+    let last = length-last_line-le (last_part text) in
+    let both = length-append (ended_lines text) (last_line (last_part text)) in
+    omega arith
+
 -- Edges of lists of lines.
 pub edges_of_lines-append : (vertices : ℕ) (both : Bool) (xs ys : List (List ℕ))
     → edges_of_lines vertices both (xs ++ ys) ≡ edges_of_lines vertices both xs ++ edges_of_lines vertices both ys
 unfolding edges_of_lines
 edges_of_lines-append vertices both xs ys = flat_map-append (λ line. edges_said both (meaning vertices line)) xs ys
+
+pub edges_of_lines-nil : (vertices : ℕ) (both : Bool) → edges_of_lines vertices both [] ≡ []
+unfolding edges_of_lines
+edges_of_lines-nil vertices both = refl
 
 pub edges_of_lines-one : (vertices : ℕ) (both : Bool) (line : List ℕ)
     → edges_of_lines vertices both (line ∷ []) ≡ edges_said both (meaning vertices line)

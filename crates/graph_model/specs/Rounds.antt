@@ -1,5 +1,5 @@
 -- The values of all vertices, round by round, and the last round.
-use Rattle.std.specs.Prelude.{◌≡◌, ℕ, ◌≤◌, ◌<◌, zero, suc, pred, List, map, filter, count_by, ◌==◌, Some, None, min, fold, slice_index_or}
+use Rattle.std.specs.Prelude.{◌≡◌, ℕ, ◌≤◌, ◌<◌, zero, suc, pred, List, map, filter, count_by, Bool, not, ◌==◌, ◌&&◌, Some, None, min, fold, slice_index_or}
 use Rattle.std.specs.List.{All, filter_map, range_with_len}
 use Rattle.graph_model.specs.declared.edge.Edge.{Edge}
 use Rattle.graph_model.specs.declared.value.Value.{Value}
@@ -41,6 +41,20 @@ next_values p vertices edges values =
 unfoldable pub values : Rules → ℕ → List Edge → ℕ → List Value
 values p vertices edges zero = first_values p vertices edges
 values p vertices edges (suc round) = next_values p vertices edges (values p vertices edges round)
+
+-- Rounds in which only the vertices that changed send.
+-- whether a vertex has another value than before
+abbrev pub has_changed : List Value → List Value → ℕ → Bool
+has_changed before now v =
+    not ((value_at now v).main == (value_at before v).main && (value_at now v).side == (value_at before v).side)
+
+-- what they send to one vertex, in order of edges
+abbrev pub sent_by_changed : Rules → List Edge → List Value → List Value → ℕ → List ℕ
+sent_by_changed p edges before now v = sent_to p (filter (λ (e : Edge). has_changed before now e.src) edges) now v
+
+abbrev pub next_by_changed : Rules → ℕ → List Edge → List Value → List Value → List Value
+next_by_changed p vertices edges before now =
+    of_vertices vertices (λ v. p.next (value_at now v) (merged p (sent_by_changed p edges before now v)))
 
 -- a round whose values are those of the round before it
 abbrev pub Repeats : Rules → ℕ → List Edge → ℕ → Type 0
