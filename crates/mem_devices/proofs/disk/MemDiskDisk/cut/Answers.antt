@@ -1,0 +1,17 @@
+use Rattle.std.proofs.Common.{List, ℕ, sym, subst}
+use Rattle.ports.specs.Disk.{Cuts}
+use Rattle.mem_devices.specs.History.{recorded_state}
+use Rattle.mem_devices.specs.MemDisk.{disk_state}
+use Rattle.mem_devices.proofs.Entering.{enters_cuts}
+use Rattle.mem_devices.proofs.disk.MemDiskDisk.cut.Goals as goal
+
+pub returns-clause-cuts : goal.returns-clause-cuts
+returns-clause-cuts c =
+    let old = c.args.self.now in
+    let new = c.call.new.self in
+    let done = c.call.ensures in
+    let first = sym done.first in
+    let beat = sym done.beat in
+    subst (λ (p : List ℕ × ℕ). Cuts c.args.beat.now c.args.size (disk_state old) (recorded_state p.0 new.history.bytes.items new.history.calls.items p.1 new.plan.faults) c.call.result)
+    (λ i. (first i, beat i))
+    (enters_cuts c.call.result c.args.beat.now c.args.size old.history.first.items old.history.bytes.items new.history.bytes.items old.history.calls.items new.history.calls.items old.beat old.plan.faults new.plan.faults c.requires.size done.enters done.cause)

@@ -1,0 +1,11 @@
+pub mod Bytes
+pub mod Call
+pub mod History
+pub mod Images
+pub mod Lawful
+pub mod MemDisk
+pub mod Overlays
+pub mod Plan
+pub mod Sink
+pub mod Source
+pub mod SureReadDisk

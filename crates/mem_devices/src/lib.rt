@@ -1,0 +1,25 @@
+//! Objects of the outside that live in memory, for tests and for jobs that need no file.
+//!
+//! Each meets its trait of `ports` and tells its bytes. Where a list of numbers says which calls fail, exactly those
+//! calls fail, counted from 1. Nothing here touches a file, a stream or a thread; all memory comes from the allocator
+//! that the constructors take.
+#![tactic(auto)]
+
+mod call;
+mod disk;
+mod history;
+mod image;
+mod meter;
+mod plan;
+mod sink;
+mod source;
+mod sure_disk;
+
+pub use disk::MemDisk;
+pub use meter::{MemMeter, SureMeter};
+pub use sink::MemSink;
+pub use source::{MemSource, SureSource};
+pub use sure_disk::SureReadDisk;
+
+#[cfg(test)]
+mod tests;

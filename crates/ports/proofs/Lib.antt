@@ -1,0 +1,4 @@
+pub mod Parts
+pub mod Stops
+pub mod Streams
+pub mod Told

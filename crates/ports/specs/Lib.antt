@@ -1,0 +1,7 @@
+pub mod Bytes
+pub mod Disk
+pub mod Faults
+pub mod Sink
+pub mod Source
+pub mod Stops
+pub mod Told
