@@ -1,0 +1,1 @@
+-- Nothing here is cited by a contract.
