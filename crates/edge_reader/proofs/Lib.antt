@@ -1,0 +1,3 @@
+pub mod LineMeaning
+pub mod ReadLines
+pub mod Pieces
