@@ -1,0 +1,3 @@
+pub mod AbsorbLemmas
+pub mod MergeLemmas
+pub mod SplitLemmas

@@ -1,0 +1,10 @@
+use Rattle.std.proofs.Common.{◌≡◌, length, replicate}
+use Rattle.graph_model.specs.Rounds.{values}
+use Rattle.plain_rounds.proofs.run.run_fixed.Given as goal
+
+-- the values of the round so far
+abbrev pub invariant-loop-round : goal.invariant-loop-round
+invariant-loop-round g l = record {
+  so_far : l.values ≡ values (g.P.VertexProgram.rules l.fn.program) (length l.fn.values) l.fn.edges l._round;
+  units : l.sums ≡ replicate (length l.fn.values) (g.P.VertexProgram.rules l.fn.program).unit;
+}
