@@ -1,0 +1,10 @@
+pub mod Helping
+pub mod Growing
+pub mod Words
+pub mod Seatings
+pub mod Partings
+pub mod Steps
+pub mod Allowed
+pub mod Begins
+pub mod Knowing
+pub mod Draining

@@ -1,0 +1,3 @@
+pub mod Object
+pub mod History
+pub mod Epochs
