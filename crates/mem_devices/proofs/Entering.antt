@@ -32,10 +32,11 @@ enters_changes (Ok x) number work first bytes bytes' calls calls' beat faults fa
 enters_changes (Err e) number work first bytes bytes' calls calls' beat faults faults' enters =
     let call : Call = record { beat = number; failed = true; work = work } in
     elim enters.failed [
-      inl entered ↦ entered_to (λ xs all. Changes number (InPart work) (recorded_state first bytes calls beat faults) (recorded_state first xs all number faults')) call bytes bytes' calls calls' entered
-        (recorded_changes first bytes calls call beat faults faults')
+      | inl entered ↦ entered_to (λ xs all. Changes number (InPart work) (recorded_state first bytes calls beat faults) (recorded_state first xs all number faults')) call bytes bytes' calls calls' entered
+          (recorded_changes first bytes calls call beat faults faults')
       | inr stays ↦ stayed_to (λ xs all. Changes number (InPart work) (recorded_state first bytes calls beat faults) (recorded_state first xs all number faults')) bytes bytes' calls calls' stays
-        (unrecorded_changes (InPart work) first bytes calls beat number faults faults' (in_part_same work)) ]
+          (unrecorded_changes (InPart work) first bytes calls beat number faults faults' (in_part_same work))
+    ]
 
 -- a call that failed covers nothing
 enters_uncovered : {T E : Type 0} (result : Result T E) (number : ℕ) (work : Work) (first bytes bytes' : List ℕ) (calls calls' : List Call) (beat faults faults' : ℕ) → Enters number work bytes bytes' calls calls' result → OnErr result (Uncovered (InPart work) (recorded_state first bytes calls beat faults) (recorded_state first bytes' calls' number faults'))
@@ -43,10 +44,11 @@ enters_uncovered (Ok x) number work first bytes bytes' calls calls' beat faults 
 enters_uncovered (Err e) number work first bytes bytes' calls calls' beat faults faults' enters =
     let call : Call = record { beat = number; failed = true; work = work } in
     elim enters.failed [
-      inl entered ↦ entered_to (λ xs all. Uncovered (InPart work) (recorded_state first bytes calls beat faults) (recorded_state first xs all number faults')) call bytes bytes' calls calls' entered
-        (recorded_uncovered first bytes calls call beat faults faults' refl)
+      | inl entered ↦ entered_to (λ xs all. Uncovered (InPart work) (recorded_state first bytes calls beat faults) (recorded_state first xs all number faults')) call bytes bytes' calls calls' entered
+          (recorded_uncovered first bytes calls call beat faults faults' refl)
       | inr stays ↦ stayed_to (λ xs all. Uncovered (InPart work) (recorded_state first bytes calls beat faults) (recorded_state first xs all number faults')) bytes bytes' calls calls' stays
-        (unrecorded_uncovered (InPart work) first bytes calls beat number faults faults') ]
+          (unrecorded_uncovered (InPart work) first bytes calls beat number faults faults')
+    ]
 
 -- and no write or cut does
 never_covers : {T E : Type 0} (result : Result T E) (number : ℕ) (work : Work) (first bytes bytes' : List ℕ) (calls calls' : List Call) (beat faults faults' : ℕ) → is_sync work ≡ false → Enters number work bytes bytes' calls calls' result → Uncovered (InPart work) (recorded_state first bytes calls beat faults) (recorded_state first bytes' calls' number faults')
@@ -78,9 +80,9 @@ pub enters_writes : {T E : Type 0} (result : Result T E) (number : ℕ) (patch :
 enters_writes result number patch first bytes bytes' calls calls' beat faults faults' within enters cause =
     let piece : List ℕ = patch.piece.items in
     let changes : Changes number (InPart (Write patch)) (recorded_state first bytes calls beat faults) (recorded_state first bytes' calls' number faults') =
-        enters_changes result number (Write patch) first bytes bytes' calls calls' beat faults faults' enters in
+    enters_changes result number (Write patch) first bytes bytes' calls calls' beat faults faults' enters in
     let whole : OnOk result (bytes' ≡ after_write patch.at piece bytes) =
-        on_ok_weaker result (λ done. done ∙ overlay-within patch.at piece bytes within) (enters_done result number (Write patch) bytes bytes' calls calls' enters) in
+    on_ok_weaker result (λ done. done ∙ overlay-within patch.at piece bytes within) (enters_done result number (Write patch) bytes bytes' calls calls' enters) in
     record {
       changes = changes;
       uncovered = never_covers result number (Write patch) first bytes bytes' calls calls' beat faults faults' refl enters;
@@ -89,12 +91,13 @@ enters_writes result number patch first bytes bytes' calls calls' beat faults fa
       grown = on_ok_weaker result (λ same. ap length same ∙ length-after_write patch.at piece bytes ∙ omega arith) whole;
       no_shorter = changes.bytes.no_shorter;
       no_longer = changes.bytes.no_longer;
-      cause = cause }
+      cause = cause;
+    }
 
 pub enters_cuts : {T E : Type 0} (result : Result T E) (number size : ℕ) (first bytes bytes' : List ℕ) (calls calls' : List Call) (beat faults faults' : ℕ) → size ≤ length bytes → Enters number (Cut size) bytes bytes' calls calls' result → HasCause faults faults' result → Cuts number size (recorded_state first bytes calls beat faults) (recorded_state first bytes' calls' number faults') result
 enters_cuts result number size first bytes bytes' calls calls' beat faults faults' within enters cause =
     let changes : Changes number (InPart (Cut size)) (recorded_state first bytes calls beat faults) (recorded_state first bytes' calls' number faults') =
-        enters_changes result number (Cut size) first bytes bytes' calls calls' beat faults faults' enters in
+    enters_changes result number (Cut size) first bytes bytes' calls calls' beat faults faults' enters in
     let whole : OnOk result (bytes' ≡ take size bytes) = enters_done result number (Cut size) bytes bytes' calls calls' enters in
     record {
       changes = changes;
@@ -104,16 +107,18 @@ enters_cuts result number size first bytes bytes' calls calls' beat faults fault
       cut = on_ok_weaker result (λ same. ap length same ∙ length-take-le size bytes within) whole;
       no_shorter = omega (arith, changes.bytes.no_shorter);
       no_longer = omega (arith, ap length changes.bytes.front, length-take (length bytes') bytes);
-      cause = cause }
+      cause = cause;
+    }
 
 pub enters_syncs : {T E : Type 0} (result : Result T E) (number : ℕ) (first bytes bytes' : List ℕ) (calls calls' : List Call) (beat faults faults' : ℕ) → bytes ≡ after_calls calls first → Enters number Sync bytes bytes' calls calls' result → HasCause faults faults' result → Syncs number (recorded_state first bytes calls beat faults) (recorded_state first bytes' calls' number faults') result
 enters_syncs result number first bytes bytes' calls calls' beat faults faults' replayed enters cause =
     let changes : Changes number (InPart Sync) (recorded_state first bytes calls beat faults) (recorded_state first bytes' calls' number faults') =
-        enters_changes result number Sync first bytes bytes' calls calls' beat faults faults' enters in
+    enters_changes result number Sync first bytes bytes' calls calls' beat faults faults' enters in
     record {
       changes = changes;
       uncovered = enters_uncovered result number Sync first bytes bytes' calls calls' beat faults faults' enters;
       moves = enters_moves result number Sync bytes bytes' calls calls' enters;
       settled = enters_settled result number Sync first bytes bytes' calls calls' faults' refl replayed enters;
       size = ap length changes.bytes;
-      cause = cause }
+      cause = cause;
+    }

@@ -19,15 +19,17 @@ rising-push : (xs : List ℕ) (y : ℕ) → IsNonDecreasing xs → All (λ x. x 
 rising-push xs y rising bound i j d order within =
     let long : length (xs ++ y ∷ []) ≡ length xs + 1 = length-append xs (y ∷ []) in
     elim (cases_lt j (length xs)) [
-      inl below ↦
-        let early : i < length xs = omega arith in
-        rw (get_or_append_left xs (y ∷ []) d i early, get_or_append_left xs (y ∷ []) d j below) (rising i j d order below)
+      | inl below ↦
+          let early : i < length xs = omega arith in
+          rw (get_or_append_left xs (y ∷ []) d i early, get_or_append_left xs (y ∷ []) d j below) (rising i j d order below)
       | inr last ↦
-        let end : length xs ≡ j = omega (arith, long) in
-        let at_end : get_or (xs ++ y ∷ []) j d ≡ y = get_or_push xs y d j end in
-        elim (cases_lt i (length xs)) [
-          inl early ↦ rw (at_end, get_or_append_left xs (y ∷ []) d i early) (bound i d early)
-          | inr same ↦ let equal : i ≡ j = omega (arith, long) in rw (ap (λ k. get_or (xs ++ y ∷ []) k d) equal) (omega arith) ] ]
+          let end : length xs ≡ j = omega (arith, long) in
+          let at_end : get_or (xs ++ y ∷ []) j d ≡ y = get_or_push xs y d j end in
+          elim (cases_lt i (length xs)) [
+            | inl early ↦ rw (at_end, get_or_append_left xs (y ∷ []) d i early) (bound i d early)
+            | inr same ↦ let equal : i ≡ j = omega (arith, long) in rw (ap (λ k. get_or (xs ++ y ∷ []) k d) equal) (omega arith)
+          ]
+    ]
 
 pub kept_rising : {T E : Type 0} (r : Result T E) (calls calls' : List Call) (call : Call) → IsNonDecreasing (beats calls) → All (λ n. n ≤ call.beat) (beats calls) → OnOk r (calls' ≡ calls ++ call ∷ []) → OnErr r (calls' ≡ calls) → IsNonDecreasing (beats calls')
 kept_rising (Ok x) calls calls' call rising bound is stays =

@@ -38,9 +38,9 @@ take-push calls i call within at = take_more calls i call within ∙ ap (λ x. t
 pub covered_count-more : (calls : List Call) (i : ℕ) (call : Call) → i < length calls → call ≡ get_or calls i call → covers call ≡ true → i + 1 ≡ length (covered_calls (take (i + 1) calls))
 covered_count-more calls i call within at covering =
     sym (ap (λ all. length (covered_calls all)) (take-push calls i call within at)
-      ∙ ap length (covered-push (take i calls) call covering)
-      ∙ length-append (take i calls) (call ∷ [])
-      ∙ ap (λ n. n + 1) (length-take-le i calls (omega arith)))
+    ∙ ap length (covered-push (take i calls) call covering)
+    ∙ length-append (take i calls) (call ∷ [])
+    ∙ ap (λ n. n + 1) (length-take-le i calls (omega arith)))
 
 pub covered_count-same : (calls : List Call) (i : ℕ) (call : Call) → i < length calls → call ≡ get_or calls i call → covers call ≡ false → length (covered_calls (take i calls)) ≡ length (covered_calls (take (i + 1) calls))
 covered_count-same calls i call within at other =
@@ -100,7 +100,8 @@ call_at (suc k) (x ∷ xs) within =
     record {
       call = at.call;
       with_it = ap (λ n. take n (x ∷ xs)) next ∙ ap (λ rest. x ∷ rest) at.with_it;
-      alone = at.alone }
+      alone = at.alone;
+    }
 
 taken_sync_by : (pick : Pick) (work : Work) (bytes : List ℕ) → is_sync work ≡ true → taken pick work bytes ≡ bytes
 taken_sync_by Nothing work bytes covering = refl
@@ -124,14 +125,14 @@ early_beats : (xs : List ℕ) (k n : ℕ) → IsNonDecreasing xs → k < length 
 early_beats xs k n rising within most =
     All-from_get_or (λ x. x ≤ slice_index xs k) (take n xs) 0
     (λ i below.
-      let before : i < n = omega (arith, length-take n xs) in
-      subst (λ (x : ℕ). x ≤ slice_index xs k) (sym (get_or-take n xs i 0 before)) (rising i k 0 (omega arith) within))
+    let before : i < n = omega (arith, length-take n xs) in
+    subst (λ (x : ℕ). x ≤ slice_index xs k) (sym (get_or-take n xs i 0 before)) (rising i k 0 (omega arith) within))
 
 late_beats : (xs : List ℕ) (k n : ℕ) → IsNonDecreasing xs → k ≤ n → All (λ x. slice_index xs k ≤ x) (drop n xs)
 late_beats xs k n rising from =
     All-from_get_or (λ x. slice_index xs k ≤ x) (drop n xs) 0
     (λ i below.
-      subst (λ (x : ℕ). slice_index xs k ≤ x) (sym (get_or-drop n xs i 0)) (rising k (n + i) 0 (omega arith) (omega (arith, length-drop n xs))))
+    subst (λ (x : ℕ). slice_index xs k ≤ x) (sym (get_or-drop n xs i 0)) (rising k (n + i) 0 (omega arith) (omega (arith, length-drop n xs))))
 
 picked_with : (pick : Pick) (first : List ℕ) (calls : List Call) (k : ℕ) (call : Call) → take 1 (drop k calls) ≡ call ∷ [] → picked_image pick first calls k ≡ taken pick call.work (taken_each pick (uncovered_calls (take k calls)) (after_calls (covered_calls (take k calls)) first))
 picked_with pick first calls k call alone =
@@ -148,7 +149,8 @@ during_by pick first calls k true at covering rising within =
       within = omega arith;
       before = early_beats (beats calls) k k rising there (omega arith);
       behind = late_beats (beats calls) k k rising (omega arith);
-      image = subst (λ (c : List ℕ). IsImage first (take k calls) c) (sym (picked_with pick first calls k at.call at.alone ∙ taken_sync pick at.call before covering)) (picked_before pick first (take k calls)) }
+      image = subst (λ (c : List ℕ). IsImage first (take k calls) c) (sym (picked_with pick first calls k at.call at.alone ∙ taken_sync pick at.call before covering)) (picked_before pick first (take k calls));
+    }
 during_by pick first calls k false at other rising within =
     let before : List ℕ = taken_each pick (uncovered_calls (take k calls)) (after_calls (covered_calls (take k calls)) first) in
     let there : k < length (beats calls) = omega (arith, length-beats calls) in
@@ -159,8 +161,9 @@ during_by pick first calls k false at other rising within =
       before = early_beats (beats calls) k (k + 1) rising there (omega arith);
       behind = late_beats (beats calls) k (k + 1) rising (omega arith);
       image = subst (λ (c : List ℕ). IsImage first (take (k + 1) calls) c) (sym (picked_with pick first calls k at.call at.alone))
-        (subst (λ (all : List Call). IsImage first all (taken pick at.call.work before)) (sym at.with_it)
-          (is_image-push first (take k calls) at.call before (taken pick at.call.work before) other (picked_before pick first (take k calls)) (in_part_taken pick at.call.work before))) }
+          (subst (λ (all : List Call). IsImage first all (taken pick at.call.work before)) (sym at.with_it)
+          (is_image-push first (take k calls) at.call before (taken pick at.call.work before) other (picked_before pick first (take k calls)) (in_part_taken pick at.call.work before)));
+    }
 
 -- The image with a call in flight is one of a moment of that call.
 pub picked_during : (pick : Pick) (first : List ℕ) (calls : List Call) (k : ℕ) → IsNonDecreasing (beats calls) → k < length calls → MayLeave first calls (slice_index (beats calls) k) k (picked_image pick first calls k)
@@ -173,6 +176,6 @@ picked_now pick first calls k end =
     let none : take 1 (drop k calls) ≡ [] = ap (λ rest. take 1 rest) (drop_all k calls (omega arith)) in
     subst (λ (some : List Call). IsImage first some (picked_image pick first calls k)) all
     (subst (λ (c : List ℕ). IsImage first (take k calls) c)
-      (sym (ap (λ flight. taken_each pick (uncovered_calls (take k calls) ++ flight) (after_calls (covered_calls (take k calls)) first)) none
-        ∙ ap (λ some. taken_each pick some (after_calls (covered_calls (take k calls)) first)) (append-nil (uncovered_calls (take k calls)))))
-      (picked_before pick first (take k calls)))
+    (sym (ap (λ flight. taken_each pick (uncovered_calls (take k calls) ++ flight) (after_calls (covered_calls (take k calls)) first)) none
+    ∙ ap (λ some. taken_each pick some (after_calls (covered_calls (take k calls)) first)) (append-nil (uncovered_calls (take k calls)))))
+    (picked_before pick first (take k calls)))

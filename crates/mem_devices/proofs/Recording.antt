@@ -53,8 +53,9 @@ uncovered-push_other (x ∷ xs) call other =
     ap (λ b. if b then uncovered_calls (xs ++ call ∷ []) else x ∷ (xs ++ call ∷ [])) (any_covers-push_other (x ∷ xs) call other)
     ∙ ap (λ rest. if list_any covers (x ∷ xs) then rest else x ∷ (xs ++ call ∷ [])) (uncovered-push_other xs call other)
     ∙ (elim (list_any covers (x ∷ xs)) as (λ b. (if b then uncovered_calls xs ++ call ∷ [] else x ∷ (xs ++ call ∷ [])) ≡ (if b then uncovered_calls xs else x ∷ xs) ++ call ∷ []) [
-        true ↦ refl
-        | false ↦ refl ])
+      | true ↦ refl
+      | false ↦ refl
+    ])
 
 takes_each-push : (calls : List Call) (call : Call) (image d c : List ℕ) → TakesEach calls image d → InPart call.work d c → TakesEach (calls ++ call ∷ []) image c
 takes_each-push [] call image d c same part = (c, subst (λ (from : List ℕ). InPart call.work from c) same part, refl)
@@ -71,19 +72,19 @@ pub is_image-push : (first : List ℕ) (calls : List Call) (call : Call) (d c : 
 is_image-push first calls call d c other image part =
     subst (λ (all : List Call). TakesEach all (after_calls (covered_calls (calls ++ call ∷ [])) first) c) (sym (uncovered-push_other calls call other))
     (subst (λ (all : List Call). TakesEach (uncovered_calls calls ++ call ∷ []) (after_calls all first) c) (sym (covered-push_other calls call other))
-      (takes_each-push (uncovered_calls calls) call (after_calls (covered_calls calls) first) d c image part))
+    (takes_each-push (uncovered_calls calls) call (after_calls (covered_calls calls) first) d c image part))
 
 is_image-pop : (first : List ℕ) (calls : List Call) (call : Call) (c : List ℕ) → covers call ≡ false → IsImage first (calls ++ call ∷ []) c → (d : List ℕ) × IsImage first calls d × InPart call.work d c
 is_image-pop first calls call c other image =
     takes_each-pop (uncovered_calls calls) call (after_calls (covered_calls calls) first) c
     (subst (λ (all : List Call). TakesEach (uncovered_calls calls ++ call ∷ []) (after_calls all first) c) (covered-push_other calls call other)
-      (subst (λ (all : List Call). TakesEach all (after_calls (covered_calls (calls ++ call ∷ [])) first) c) (uncovered-push_other calls call other) image))
+    (subst (λ (all : List Call). TakesEach all (after_calls (covered_calls (calls ++ call ∷ [])) first) c) (uncovered-push_other calls call other) image))
 
 -- After a sync that succeeded what a read gives is the only image.
 pub image_after_sync : (first : List ℕ) (calls : List Call) (call : Call) (c : List ℕ) → covers call ≡ true → IsImage first (calls ++ call ∷ []) c → c ≡ after_calls (calls ++ call ∷ []) first
 image_after_sync first calls call c covering image =
     let last : TakesEach [] (after_calls (covered_calls (calls ++ call ∷ [])) first) c =
-        subst (λ (all : List Call). TakesEach all (after_calls (covered_calls (calls ++ call ∷ [])) first) c) (uncovered-push calls call covering) image in
+    subst (λ (all : List Call). TakesEach all (after_calls (covered_calls (calls ++ call ∷ [])) first) c) (uncovered-push calls call covering) image in
     last ∙ ap (λ all. after_calls all first) (covered-push calls call covering)
 
 pub after_calls-push : (calls : List Call) (call : Call) (first : List ℕ) → after_calls (calls ++ call ∷ []) first ≡ after_call call (after_calls calls first)
@@ -104,9 +105,10 @@ pub beats-push : (calls : List Call) (call : Call) → beats (calls ++ call ∷ 
 beats-push calls call = map-append (λ (x : Call). x.beat) calls (call ∷ [])
 
 All-parts : (P : ℕ → Type 0) (xs ys : List ℕ) → All P (xs ++ ys) → All P xs × All P ys
-All-parts P xs ys all =
-    (All-same P xs (take (length xs) (xs ++ ys)) (sym (take_at xs ys (length xs) refl)) (All-take P (length xs) (xs ++ ys) all),
-     All-same P ys (drop (length xs) (xs ++ ys)) (sym (drop_at xs ys (length xs) refl)) (All-drop P (length xs) (xs ++ ys) all))
+All-parts P xs ys all = (
+  All-same P xs (take (length xs) (xs ++ ys)) (sym (take_at xs ys (length xs) refl)) (All-take P (length xs) (xs ++ ys) all),
+  All-same P ys (drop (length xs) (xs ++ ys)) (sym (drop_at xs ys (length xs) refl)) (All-drop P (length xs) (xs ++ ys) all),
+)
 
 -- A stop of the record with the call is one without it, or one behind it.
 stop_since : (first : List ℕ) (calls : List Call) (call : Call) (b t : ℕ) (c : List ℕ) → MayLeave first (calls ++ call ∷ []) b t c → MayLeave first calls b t c ⊎ ((call.beat ≤ b) × IsImage first (calls ++ call ∷ []) c)
@@ -115,25 +117,27 @@ stop_since first calls call b t c stop =
     let moment : ℕ = stop.moment in
     let numbers : beats all ≡ beats calls ++ call.beat ∷ [] = beats-push calls call in
     elim (cases_lt (length calls) moment) [
-      inl behind ↦
-        let end : length all ≤ moment = omega (arith, length-append calls (call ∷ []), behind) in
-        let long : length (beats all) ≤ moment = omega (arith, length-beats all, end) in
-        let early : All (λ n. n ≤ b) (beats calls ++ call.beat ∷ []) =
-            All-same (λ n. n ≤ b) (beats calls ++ call.beat ∷ []) (take moment (beats all)) (sym (take_all moment (beats all) long ∙ numbers)) stop.before in
-        let last : call.beat ≤ b = (All-parts (λ n. n ≤ b) (beats calls) (call.beat ∷ []) early).1 0 0 (omega arith) in
-        inr (last, stop_at_end first all b t c stop end)
+      | inl behind ↦
+          let end : length all ≤ moment = omega (arith, length-append calls (call ∷ []), behind) in
+          let long : length (beats all) ≤ moment = omega (arith, length-beats all, end) in
+          let early : All (λ n. n ≤ b) (beats calls ++ call.beat ∷ []) =
+          All-same (λ n. n ≤ b) (beats calls ++ call.beat ∷ []) (take moment (beats all)) (sym (take_all moment (beats all) long ∙ numbers)) stop.before in
+          let last : call.beat ≤ b = (All-parts (λ n. n ≤ b) (beats calls) (call.beat ∷ []) early).1 0 0 (omega arith) in
+          inr (last, stop_at_end first all b t c stop end)
       | inr within ↦
-        let short : moment ≤ length (beats calls) = omega (arith, length-beats calls, within) in
-        inl (record {
-          moment = moment;
-          since = stop.since;
-          within = within;
-          before = All-same (λ n. n ≤ b) (take moment (beats calls)) (take moment (beats all))
-            (sym (ap (λ ns. take moment ns) numbers ∙ take-append-le moment (beats calls) (call.beat ∷ []) short)) stop.before;
-          behind = (All-parts (λ n. b ≤ n) (drop moment (beats calls)) (call.beat ∷ [])
-            (All-same (λ n. b ≤ n) (drop moment (beats calls) ++ call.beat ∷ []) (drop moment (beats all))
-              (sym (ap (λ ns. drop moment ns) numbers ∙ drop-append-le moment (beats calls) (call.beat ∷ []) short)) stop.behind)).0;
-          image = subst (λ (some : List Call). IsImage first some c) (take-append-le moment calls (call ∷ []) within) stop.image }) ]
+          let short : moment ≤ length (beats calls) = omega (arith, length-beats calls, within) in
+          inl (record {
+            moment = moment;
+            since = stop.since;
+            within = within;
+            before = All-same (λ n. n ≤ b) (take moment (beats calls)) (take moment (beats all))
+                (sym (ap (λ ns. take moment ns) numbers ∙ take-append-le moment (beats calls) (call.beat ∷ []) short)) stop.before;
+            behind = (All-parts (λ n. b ≤ n) (drop moment (beats calls)) (call.beat ∷ [])
+                (All-same (λ n. b ≤ n) (drop moment (beats calls) ++ call.beat ∷ []) (drop moment (beats all))
+                (sym (ap (λ ns. drop moment ns) numbers ∙ drop-append-le moment (beats calls) (call.beat ∷ []) short)) stop.behind)).0;
+            image = subst (λ (some : List Call). IsImage first some c) (take-append-le moment calls (call ∷ []) within) stop.image;
+          })
+    ]
 
 stop_keeps : (first : List ℕ) (calls : List Call) (call : Call) (b t : ℕ) (c : List ℕ) → b ≤ call.beat → MayLeave first calls b t c → MayLeave first (calls ++ call ∷ []) b t c
 stop_keeps first calls call b t c later stop =
@@ -147,11 +151,12 @@ stop_keeps first calls call b t c later stop =
       since = stop.since;
       within = omega (arith, length-append calls (call ∷ []), within);
       before = All-same (λ n. n ≤ b) (take moment (beats all)) (take moment (beats calls))
-        (ap (λ ns. take moment ns) numbers ∙ take-append-le moment (beats calls) (call.beat ∷ []) short) stop.before;
+          (ap (λ ns. take moment ns) numbers ∙ take-append-le moment (beats calls) (call.beat ∷ []) short) stop.before;
       behind = All-same (λ n. b ≤ n) (drop moment (beats all)) (drop moment (beats calls) ++ call.beat ∷ [])
-        (ap (λ ns. drop moment ns) numbers ∙ drop-append-le moment (beats calls) (call.beat ∷ []) short)
-        (All-push (λ n. b ≤ n) (drop moment (beats calls)) call.beat stop.behind later);
-      image = subst (λ (some : List Call). IsImage first some c) (sym (take-append-le moment calls (call ∷ []) within)) stop.image }
+          (ap (λ ns. drop moment ns) numbers ∙ drop-append-le moment (beats calls) (call.beat ∷ []) short)
+          (All-push (λ n. b ≤ n) (drop moment (beats calls)) call.beat stop.behind later);
+      image = subst (λ (some : List Call). IsImage first some c) (sym (take-append-le moment calls (call ∷ []) within)) stop.image;
+    }
 
 -- A call that is recorded.
 pub recorded_changes : (first bytes : List ℕ) (calls : List Call) (call : Call) (number faults faults' : ℕ) → Changes call.beat (InPart call.work) (recorded_state first bytes calls number faults) (recorded_state first (after_call call bytes) (calls ++ call ∷ []) call.beat faults')
@@ -164,12 +169,14 @@ recorded_changes first bytes calls call number faults faults' =
       later = omega (arith, one_more);
       unmoved = λ same c image. absurd (omega (arith, one_more, same));
       since = λ b t c before stop. stop_since first calls call b t c stop;
-      keeps = λ b t c before later stop. stop_keeps first calls call b t c later stop }
+      keeps = λ b t c before later stop. stop_keeps first calls call b t c later stop;
+    }
 
 pub recorded_uncovered : (first bytes : List ℕ) (calls : List Call) (call : Call) (number faults faults' : ℕ) → covers call ≡ false → Uncovered (InPart call.work) (recorded_state first bytes calls number faults) (recorded_state first (after_call call bytes) (calls ++ call ∷ []) call.beat faults')
 recorded_uncovered first bytes calls call number faults faults' other = record {
   stays = λ c image. is_image-push first calls call c c other image (in_part_same call.work c);
-  may = λ moved c after. is_image-push first calls call after.0 c other after.1 after.2 }
+  may = λ moved c after. is_image-push first calls call after.0 c other after.1 after.2;
+}
 
 pub recorded_settled : (first bytes : List ℕ) (calls : List Call) (call : Call) (faults : ℕ) → bytes ≡ after_calls calls first → covers call ≡ true → IsSettled (recorded_state first (after_call call bytes) (calls ++ call ∷ []) call.beat faults)
 recorded_settled first bytes calls call faults replayed covering c image =
@@ -184,9 +191,11 @@ unrecorded_changes part first bytes calls number number' faults faults' nothing 
   later = omega arith;
   unmoved = λ same c image. image;
   since = λ b t c before stop. inl stop;
-  keeps = λ b t c before later stop. stop }
+  keeps = λ b t c before later stop. stop;
+}
 
 pub unrecorded_uncovered : (part : List ℕ → List ℕ → Type 0) (first bytes : List ℕ) (calls : List Call) (number number' faults faults' : ℕ) → Uncovered part (recorded_state first bytes calls number faults) (recorded_state first bytes calls number' faults')
 unrecorded_uncovered part first bytes calls number number' faults faults' = record {
   stays = λ c image. image;
-  may = λ moved c after. absurd (omega (arith, moved)) }
+  may = λ moved c after. absurd (omega (arith, moved));
+}

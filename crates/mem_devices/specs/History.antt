@@ -54,7 +54,8 @@ recorded_state first bytes calls beat faults =
       beat = beat;
       images = IsImage first calls;
       stops = MayLeave first calls;
-      faults = faults }
+      faults = faults;
+    }
 
 pub record Entered (call : Call) (bytes bytes' : List ℕ) (calls calls' : List Call) : Type 0 where
   pub bytes_are : bytes' ≡ after_call call bytes

@@ -28,8 +28,9 @@ in_part_whole Sync bytes = refl
 pub in_part_after : (call : Call) (bytes : List ℕ) → InPart call.work bytes (after_call call bytes)
 in_part_after call bytes =
     elim call.failed as (λ failed. InPart call.work bytes (if failed then bytes else after_work call.work bytes)) [
-      true ↦ in_part_same call.work bytes
-      | false ↦ in_part_whole call.work bytes ]
+      | true ↦ in_part_same call.work bytes
+      | false ↦ in_part_whole call.work bytes
+    ]
 
 pub after_calls-append : (xs ys : List Call) (bytes : List ℕ) → after_calls (xs ++ ys) bytes ≡ after_calls ys (after_calls xs bytes)
 after_calls-append [] ys bytes = refl
@@ -40,8 +41,9 @@ pub covered-append : (calls : List Call) → covered_calls calls ++ uncovered_ca
 covered-append [] = refl
 covered-append (call ∷ calls) =
     elim (list_any covers (call ∷ calls)) as (λ b. (if b then call ∷ covered_calls calls else []) ++ (if b then uncovered_calls calls else call ∷ calls) ≡ call ∷ calls) [
-      true ↦ ap (λ rest. call ∷ rest) (covered-append calls)
-      | false ↦ refl ]
+      | true ↦ ap (λ rest. call ∷ rest) (covered-append calls)
+      | false ↦ refl
+    ]
 
 -- What a read gives is an image.
 takes_each_after : (calls : List Call) (image : List ℕ) → TakesEach calls image (after_calls calls image)
@@ -68,7 +70,8 @@ stops_now first calls number b t c bound later since image =
       within = omega arith;
       before = All-same (λ n. n ≤ b) (take (length calls) (beats calls)) (beats calls) all (All-weaker (λ n. n ≤ number) (λ n. n ≤ b) (λ n below. omega arith) (beats calls) bound);
       behind = All-same (λ n. b ≤ n) (drop (length calls) (beats calls)) [] none (All-nil (λ n. b ≤ n));
-      image = subst (λ (some : List Call). IsImage first some c) (sym (take_all (length calls) calls (omega arith))) image }
+      image = subst (λ (some : List Call). IsImage first some c) (sym (take_all (length calls) calls (omega arith))) image;
+    }
 
 pub stop_at_end : (first : List ℕ) (calls : List Call) (b t : ℕ) (c : List ℕ) (stop : MayLeave first calls b t c) → length calls ≤ stop.moment → IsImage first calls c
 stop_at_end first calls b t c stop end = subst (λ (some : List Call). IsImage first some c) (take_all stop.moment calls end) stop.image
@@ -77,14 +80,15 @@ stop_at_end first calls b t c stop end = subst (λ (some : List Call). IsImage f
 no_call_behind : (first : List ℕ) (calls : List Call) (number b t : ℕ) (c : List ℕ) → All (λ n. n ≤ number) (beats calls) → number < b → (stop : MayLeave first calls b t c) → length calls ≤ stop.moment
 no_call_behind first calls number b t c bound later stop =
     elim (cases_lt stop.moment (length calls)) [
-      inl inside ↦
-        let there : stop.moment < length (beats calls) = omega (arith, length-beats calls) in
-        let here : 0 < length (drop stop.moment (beats calls)) = omega (arith, length-drop stop.moment (beats calls)) in
-        let low : b ≤ get_or (drop stop.moment (beats calls)) 0 0 = stop.behind 0 0 here in
-        let same : get_or (drop stop.moment (beats calls)) 0 0 ≡ get_or (beats calls) stop.moment 0 = get_or-drop stop.moment (beats calls) 0 0 ∙ ap (λ n. get_or (beats calls) n 0) (omega arith) in
-        let high : get_or (beats calls) stop.moment 0 ≤ number = bound stop.moment 0 there in
-        absurd (omega (arith, low, same, high, later))
-      | inr end ↦ end ]
+      | inl inside ↦
+          let there : stop.moment < length (beats calls) = omega (arith, length-beats calls) in
+          let here : 0 < length (drop stop.moment (beats calls)) = omega (arith, length-drop stop.moment (beats calls)) in
+          let low : b ≤ get_or (drop stop.moment (beats calls)) 0 0 = stop.behind 0 0 here in
+          let same : get_or (drop stop.moment (beats calls)) 0 0 ≡ get_or (beats calls) stop.moment 0 = get_or-drop stop.moment (beats calls) 0 0 ∙ ap (λ n. get_or (beats calls) n 0) (omega arith) in
+          let high : get_or (beats calls) stop.moment 0 ≤ number = bound stop.moment 0 there in
+          absurd (omega (arith, low, same, high, later))
+      | inr end ↦ end
+    ]
 
 pub recorded_is_disk : (first bytes : List ℕ) (calls : List Call) (number faults : ℕ) → bytes ≡ after_calls calls first → All (λ n. n ≤ number) (beats calls) → IsDisk (recorded_state first bytes calls number faults)
 recorded_is_disk first bytes calls number faults replayed bound = record {
@@ -93,4 +97,5 @@ recorded_is_disk first bytes calls number faults replayed bound = record {
   told = λ c image. refl;
   counts_now = λ b t c later since image. stops_now first calls number b t c bound later since image;
   only_now = λ b c stop. stop_at_end first calls b (length calls) c stop stop.since;
-  later_beats = λ b t c later stop. stop_at_end first calls b t c stop (no_call_behind first calls number b t c bound later stop) }
+  later_beats = λ b t c later stop. stop_at_end first calls b t c stop (no_call_behind first calls number b t c bound later stop);
+}

@@ -11,10 +11,11 @@ drop-grown end bytes =
     let zeros : List ℕ = replicate (end - length bytes) 0 in
     let long : length (bytes ++ zeros) ≡ length bytes + (end - length bytes) = simp (length-append, length-replicate) in
     elim (cases_lt (length bytes) end) [
-      inl short ↦ drop_all end (bytes ++ zeros) (omega (arith, long)) ∙ sym (drop_all end bytes (omega arith))
+      | inl short ↦ drop_all end (bytes ++ zeros) (omega (arith, long)) ∙ sym (drop_all end bytes (omega arith))
       | inr enough ↦
-        let none : end - length bytes ≡ 0 = omega arith in
-        ap (λ n. drop end (bytes ++ replicate n 0)) none ∙ ap (λ xs. drop end xs) (append-nil bytes) ]
+          let none : end - length bytes ≡ 0 = omega arith in
+          ap (λ n. drop end (bytes ++ replicate n 0)) none ∙ ap (λ xs. drop end xs) (append-nil bytes)
+    ]
 
 take-padded : (at gap more : ℕ) (bytes : List ℕ) → length bytes + gap ≡ at → take at (bytes ++ replicate (gap + more) 0) ≡ bytes ++ replicate gap 0
 take-padded at gap more bytes there =
@@ -26,16 +27,17 @@ take-padded at gap more bytes there =
 take-grown : (at end : ℕ) (bytes : List ℕ) → at ≤ end → take at (bytes ++ replicate (end - length bytes) 0) ≡ take at bytes ++ replicate (at - length bytes) 0
 take-grown at end bytes within =
     elim (cases_lt at (length bytes)) [
-      inl inside ↦
-        let none : at - length bytes ≡ 0 = omega arith in
-        let there : at ≤ length bytes = omega arith in
-        take-append-le at bytes (replicate (end - length bytes) 0) there
-        ∙ sym (ap (λ n. take at bytes ++ replicate n 0) none ∙ append-nil (take at bytes))
+      | inl inside ↦
+          let none : at - length bytes ≡ 0 = omega arith in
+          let there : at ≤ length bytes = omega arith in
+          take-append-le at bytes (replicate (end - length bytes) 0) there
+          ∙ sym (ap (λ n. take at bytes ++ replicate n 0) none ∙ append-nil (take at bytes))
       | inr past ↦
-        let split : end - length bytes ≡ at - length bytes + (end - at) = omega arith in
-        ap (λ n. take at (bytes ++ replicate n 0)) split
-        ∙ take-padded at (at - length bytes) (end - at) bytes (omega arith)
-        ∙ ap (λ xs. xs ++ replicate (at - length bytes) 0) (sym (take_all at bytes past)) ]
+          let split : end - length bytes ≡ at - length bytes + (end - at) = omega arith in
+          ap (λ n. take at (bytes ++ replicate n 0)) split
+          ∙ take-padded at (at - length bytes) (end - at) bytes (omega arith)
+          ∙ ap (λ xs. xs ++ replicate (at - length bytes) 0) (sym (take_all at bytes past))
+    ]
 
 pub after_write-grown : (at : ℕ) (piece bytes : List ℕ) → after_write at piece (bytes ++ replicate (at + length piece - length bytes) 0) ≡ overlay at piece bytes
 after_write-grown at piece bytes =
@@ -54,23 +56,25 @@ overlay-within at piece bytes within =
 pub torn_overlay : (at : ℕ) (piece bytes : List ℕ) → Torn at (length piece) bytes (overlay at piece bytes)
 torn_overlay at piece bytes =
     elim (cases_lt (length bytes) at) [
-      inl past ↦
-        let front : List ℕ = take at bytes ++ replicate (at - length bytes) 0 ++ piece in
-        let rest : List ℕ = drop (at + length piece) bytes in
-        let kept : length (take at bytes) ≡ length bytes = ap length (take_all at bytes (omega arith)) in
-        let long : length front ≡ length bytes + (at - length bytes) + length piece =
-            simp (length-append, length-replicate) (ap (λ n. n + (at - length bytes) + length piece) kept) in
-        let whole : length (overlay at piece bytes) ≡ at + length piece =
-            length-append front rest ∙ ap (λ n. length front + n) (length-drop (at + length piece) bytes) ∙ omega (arith, long) in
-        record {
-          no_shorter = omega (arith, whole);
-          no_longer = omega (arith, whole);
-          stays = λ i within outside.
-            let here : i < length (take at bytes) = omega (arith, kept) in
-            let here' : i < length (take at bytes ++ replicate (at - length bytes) 0) = omega (arith, here, length-append (take at bytes) (replicate (at - length bytes) 0)) in
-            let here'' : i < length front = omega (arith, long) in
-            get_or_append_left front rest 0 i here''
-            ∙ get_or_append_left (take at bytes ++ replicate (at - length bytes) 0) piece 0 i here'
-            ∙ get_or_append_left (take at bytes) (replicate (at - length bytes) 0) 0 i here
-            ∙ get_or-take at bytes i 0 (omega arith) }
-      | inr inside ↦ subst (Torn at (length piece) bytes) (sym (overlay-within at piece bytes inside)) (torn_after_write at piece bytes) ]
+      | inl past ↦
+          let front : List ℕ = take at bytes ++ replicate (at - length bytes) 0 ++ piece in
+          let rest : List ℕ = drop (at + length piece) bytes in
+          let kept : length (take at bytes) ≡ length bytes = ap length (take_all at bytes (omega arith)) in
+          let long : length front ≡ length bytes + (at - length bytes) + length piece =
+          simp (length-append, length-replicate) (ap (λ n. n + (at - length bytes) + length piece) kept) in
+          let whole : length (overlay at piece bytes) ≡ at + length piece =
+          length-append front rest ∙ ap (λ n. length front + n) (length-drop (at + length piece) bytes) ∙ omega (arith, long) in
+          record {
+            no_shorter = omega (arith, whole);
+            no_longer = omega (arith, whole);
+            stays = λ i within outside.
+                let here : i < length (take at bytes) = omega (arith, kept) in
+                let here' : i < length (take at bytes ++ replicate (at - length bytes) 0) = omega (arith, here, length-append (take at bytes) (replicate (at - length bytes) 0)) in
+                let here'' : i < length front = omega (arith, long) in
+                get_or_append_left front rest 0 i here''
+                ∙ get_or_append_left (take at bytes ++ replicate (at - length bytes) 0) piece 0 i here'
+                ∙ get_or_append_left (take at bytes) (replicate (at - length bytes) 0) 0 i here
+                ∙ get_or-take at bytes i 0 (omega arith);
+          }
+      | inr inside ↦ subst (Torn at (length piece) bytes) (sym (overlay-within at piece bytes inside)) (torn_after_write at piece bytes)
+    ]

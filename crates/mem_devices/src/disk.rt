@@ -71,7 +71,9 @@ impl MemDisk {
         ensures during { moment ≤ (disk_state self.now).moment → (disk_state self.now).stops (slice_index (recorded_beats self.now) (moment - 1)) (moment - 1) (picked_bytes pick moment self.now) }
         ensures after { moment ≡ (disk_state self.now).moment + 1 → (disk_state self.now).images (picked_bytes pick moment self.now) }
     {
-        let bytes = self.history.image(alloc, moment as usize - 1, Pick::of(pick))?;
+        let bytes = self
+            .history
+            .image(alloc, moment as usize - 1, Pick::of(pick))?;
         MemDisk::new(alloc, &bytes, &[])
     }
 

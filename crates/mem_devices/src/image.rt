@@ -106,7 +106,12 @@ fn replay(calls: &[Call], bytes: &mut Vec<u8>) -> Result<(), AllocError>
 }
 
 // Takes all the calls by the pick, also those that failed.
-fn take_each(alloc: Global, calls: &[Call], pick: Pick, bytes: &mut Vec<u8>) -> Result<(), AllocError>
+fn take_each(
+    alloc: Global,
+    calls: &[Call],
+    pick: Pick,
+    bytes: &mut Vec<u8>,
+) -> Result<(), AllocError>
     ensures { OnOk result (bytes.new.items ≡ taken_each pick calls.now bytes.old.items) }
 {
     for call in calls {

@@ -112,7 +112,12 @@ fn expected(alloc: Global, moment: u64, pick: u32) -> Result<Vec<u8>, AllocError
 }
 
 // All bytes of a disk.
-fn bytes_of<D: Disk>(rt: &impl Abort, alloc: Global, disk: &D, meter: &mut D::M) -> Result<Vec<u8>, Memory> {
+fn bytes_of<D: Disk>(
+    rt: &impl Abort,
+    alloc: Global,
+    disk: &D,
+    meter: &mut D::M,
+) -> Result<Vec<u8>, Memory> {
     let mut bytes = vec![in alloc; 0; disk.size() as usize]?;
     assert_eq!(rt; disk.read_at(meter, 0, &mut bytes), Ok(()));
     Ok(bytes)
@@ -135,21 +140,34 @@ fn each_image_is_that_of_a_plain_replay(rt: HostRuntime) -> Result<(), Memory> {
         }
         for pick in 0..4 {
             let image = disk.image(alloc, moment, pick)?;
-            assert_eq!(rt; bytes_of(&rt, alloc, &image, &mut meter)?, expected(alloc, moment, pick)?, "moment {moment}, pick {pick}");
+            assert_eq!(rt;
+                bytes_of(&rt, alloc, &image, &mut meter)?,
+                expected(alloc, moment, pick)?,
+                "moment {moment}, pick {pick}"
+            );
         }
     }
     Ok(())
 }
 
 // Some calls through the trait, on a disk of "abcd".
-fn try_calls<D: Disk>(rt: &impl Abort, alloc: Global, disk: &mut D, meter: &mut D::M, beat: &Beat) -> Result<(), Memory>
+fn try_calls<D: Disk>(
+    rt: &impl Abort,
+    alloc: Global,
+    disk: &mut D,
+    meter: &mut D::M,
+    beat: &Beat,
+) -> Result<(), Memory>
     requires { (D.state disk.old).beat ≤ beat.now }
 {
     assert!(rt; disk.size() == 4);
     assert_eq!(rt; write_synced(disk, beat, 3, b"XYZ"), Ok(()));
     assert!(rt; disk.size() == 6);
     assert_eq!(rt; cut_synced(disk, beat, 5), Ok(()));
-    assert_eq!(rt; bytes_of(rt, alloc, disk, meter)?.as_slice(), b"abcXY".as_slice());
+    assert_eq!(rt;
+        bytes_of(rt, alloc, disk, meter)?.as_slice(),
+        b"abcXY".as_slice()
+    );
     Ok(())
 }
 
@@ -161,6 +179,7 @@ fn each_kind_of_disk_is_used_alike(rt: HostRuntime) -> Result<(), Memory> {
     let mut disk = MemDisk::new(alloc, b"abcd", &[])?;
     let mut meter = MemMeter::new(alloc, &[2])?;
     try_calls(&rt, alloc, &mut disk, &mut meter, &beat)?;
+    assert!(rt; disk.size() == 5);
     let mut into = [7];
     assert_eq!(rt; disk.read_at(&mut meter, 0, &mut into), Err(Failed));
     assert_eq!(rt; into, [7]);
@@ -171,5 +190,11 @@ fn each_kind_of_disk_is_used_alike(rt: HostRuntime) -> Result<(), Memory> {
     let mut untold = UntoldDisk {
         disk: MemDisk::new(alloc, b"abcd", &[])?,
     };
-    try_calls(&rt, alloc, &mut untold, &mut MemMeter::new(alloc, &[])?, &beat)
+    try_calls(
+        &rt,
+        alloc,
+        &mut untold,
+        &mut MemMeter::new(alloc, &[])?,
+        &beat,
+    )
 }

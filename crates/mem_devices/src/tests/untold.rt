@@ -16,13 +16,14 @@ impl Disk for UntoldDisk {
     type M = MemMeter;
 
     ghost state = { λ d. record {
-        size = (disk_state d.disk).size;
-        bytes = None;
-        moment = 0;
-        beat = (disk_state d.disk).beat;
-        images = λ c. ⊥;
-        stops = λ b t c. ⊥;
-        faults = (disk_state d.disk).faults } };
+      size = (disk_state d.disk).size;
+      bytes = None;
+      moment = 0;
+      beat = (disk_state d.disk).beat;
+      images = λ c. ⊥;
+      stops = λ b t c. ⊥;
+      faults = (disk_state d.disk).faults;
+    } };
 
     fn size(&self) -> u64 {
         self.disk.size()
@@ -45,10 +46,11 @@ impl Disk for UntoldDisk {
     }
 
     ghost lawful = { λ d. record {
-        sized = tt;
-        present = tt;
-        told = λ c image. absurd image;
-        counts_now = λ b t c later before image. absurd image;
-        only_now = λ b c stop. absurd stop;
-        later_beats = λ b t c later stop. absurd stop } };
+      sized = tt;
+      present = tt;
+      told = λ c image. absurd image;
+      counts_now = λ b t c later before image. absurd image;
+      only_now = λ b c stop. absurd stop;
+      later_beats = λ b t c later stop. absurd stop;
+    } };
 }

@@ -7,8 +7,9 @@ use Rattle.mem_devices.proofs.image.covered_count.Goals.{then-covers, else-cover
 pub loop-index-preserved : goal.loop-index-preserved
 loop-index-preserved c =
     elim c.if-covers.branch [
-      then-covers w ↦ w.count-is ∙ covered_count-more c.args.calls.now c.loop-index.index c.index-calls-index.result c.loop-index-test.true c.index-calls-index.is (sym c.covers.ensures ∙ w.if-covers.true)
-      | else-covers w ↦ w.count-is ∙ c.loop-index.invariant ∙ covered_count-same c.args.calls.now c.loop-index.index c.index-calls-index.result c.loop-index-test.true c.index-calls-index.is (sym c.covers.ensures ∙ w.if-covers.false) ]
+      | then-covers w ↦ w.count-is ∙ covered_count-more c.args.calls.now c.loop-index.index c.index-calls-index.result c.loop-index-test.true c.index-calls-index.is (sym c.covers.ensures ∙ w.if-covers.true)
+      | else-covers w ↦ w.count-is ∙ c.loop-index.invariant ∙ covered_count-same c.args.calls.now c.loop-index.index c.index-calls-index.result c.loop-index-test.true c.index-calls-index.is (sym c.covers.ensures ∙ w.if-covers.false)
+    ]
 
 pub returns-clause-within : goal.returns-clause-within
 returns-clause-within c = omega (arith, c.loop-index.invariant, length-covered (take c.loop-index.index c.args.calls.now), length-take c.loop-index.index c.args.calls.now)
