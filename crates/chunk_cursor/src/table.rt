@@ -11,7 +11,8 @@ use crate::rule::{
 };
 use crate::view::View;
 use atomic_table::{Seat, Table};
-use std::alloc::{AllocError, Global};
+use ports::Memory;
+use std::alloc::Global;
 use std::marker::Model;
 
 const CURSORS: u32 = 512;
@@ -77,7 +78,7 @@ impl Model for CursorSeat {
 
 impl CursorTable {
     /// A table whose cursors have no chunks, with its first seat. It fails only for want of memory.
-    pub fn new(alloc: Global) -> Result<(CursorTable, CursorSeat), AllocError>
+    pub fn new(alloc: Global) -> Result<(CursorTable, CursorSeat), Memory>
         ensures { IfOk result (λ made. made.1 ≡ record { table = made.0; view = newcomer }) }
     {
         let (table, seat) = Table::of_words(alloc, &[0; WORDS], &())?;

@@ -6,3 +6,4 @@ pub mod Whole
 pub mod Covered
 pub mod Order
 mod WorkedExamples
+pub mod Dutiful

@@ -1,10 +1,13 @@
 -- The definitions on worked examples, by hand: what is legal and ordered, what is not, and what is counted.
-use Rattle.std.proofs.Common.{◌≡◌, ◌≢◌, true, false, List, [], ◌∷◌, ◌++◌, refl, arith}
+use Rattle.std.proofs.Common.{◌≡◌, ◌≢◌, ℕ, zero, suc, ◌%◌, ◌<◌, true, false, List, [], ◌∷◌, ◌++◌, refl, arith}
+use Rattle.std.specs.List.{filter}
+use Rattle.std.proofs.lemmas.List.Elements.{All-from_recursion}
 use Rattle.chunk_object.specs.declared.call.Call.{Call}
 use Rattle.chunk_object.specs.declared.call.Call.TheVariants.{Open, Greet, Took, Exhausted, Look, Heads, Admitted, Contended, Split, Join}
 use Rattle.chunk_object.specs.declared.call.Entry.{Entry}
 use Rattle.chunk_object.specs.History.{unborn, living, IsLegal, IsOrdered, object_after, entries_of, refusals, refusals_of, admissions_of, times_taken, taken_by, opened_len, epoch_of, engine_count, engines_at_greet}
-use Rattle.chunk_object.specs.Epochs.{Terms, Epoch, entry_of, epoch_entries}
+use Rattle.chunk_object.specs.Epochs.{cursor_of, Terms, Epoch, entry_of, epoch_entries}
+use Rattle.chunk_object.specs.Duty.{partition_of, is_on, claims_at, IsClaim, EndsExhausted, ClaimsToTheEnd, Accepts, FollowsHeads, Helps, IsMaster, IsDutiful}
 
 abbrev first : Call → Entry
 first = entry_of 0 8
@@ -130,3 +133,60 @@ one_chunk = record { lens = λ cursor. 1; lists = (Took 0 0 ∷ Exhausted 0 ∷ 
 
 entries_of_one_chunk : epoch_entries small 2 one_chunk ≡ first (Open 0 1) ∷ first (Greet 0) ∷ first (Split 3 0) ∷ entry_of 3 0 (Took 0 0) ∷ entry_of 3 0 (Exhausted 0) ∷ first (Join 3 0) ∷ []
 entries_of_one_chunk = refl
+
+-- The duty with two engines and two partitions, of which the worker 0 has the first: it claims there on both engines to the end, and then proposes help with the other, where 2 and 0 chunks are left
+abbrev two_by_two : Terms
+two_by_two = record { engines = 2; partitions = 2; set_bytes = λ partition. 100; chunk_bytes = 20; alpha = 100 }
+
+abbrev own_calls : List Call
+own_calls = Took 0 0 ∷ Exhausted 64 ∷ Exhausted 0 ∷ []
+
+-- 40 bytes are unread: the cost of help is 100 * (100 * 1 * 2 + 40 * 1), and the gain 100 * 40 * 2
+abbrev asked_calls : List Call
+asked_calls = Look 1 2 ∷ Look 65 0 ∷ Heads 1 1 ∷ []
+
+abbrev dutiful_calls : List Call
+dutiful_calls = own_calls ++ asked_calls
+
+own_to_the_end : (partition : ℕ) → partition < 2 → partition % 2 ≡ 0 → ClaimsToTheEnd 2 partition (filter (is_on partition) dutiful_calls)
+own_to_the_end zero below master = record {
+  claims = All-from_recursion (IsClaim 2) own_calls (omega arith, (omega arith, (omega arith, tt)));
+  each = λ engine some. at_engine engine some;
+}
+  where
+    at_engine : (engine : ℕ) → engine < 2 → EndsExhausted (filter (claims_at (cursor_of engine 0)) own_calls)
+    at_engine zero some = tt
+    at_engine (suc zero) some = tt
+    at_engine (suc (suc engine)) some = absurd (omega arith)
+own_to_the_end (suc zero) below master = absurd (omega (arith, master))
+own_to_the_end (suc (suc partition)) below master = absurd (omega arith)
+
+other_asked : (partition : ℕ) → partition < 2 → (partition % 2 ≡ 0 → ⊥) → Helps two_by_two partition (filter (is_on partition) dutiful_calls)
+other_asked zero below other = absurd (other refl)
+other_asked (suc zero) below other = record { looks = 2 ∷ 0 ∷ []; heads = 1; rest = []; each = refl; bounds = (omega arith, omega arith); is = refl; follows = λ pays. omega (arith, pays) }
+other_asked (suc (suc partition)) below other = absurd (omega arith)
+
+is_dutiful : IsDutiful two_by_two 0 dutiful_calls
+is_dutiful = record {
+  own = own_calls;
+  others = asked_calls;
+  is = refl;
+  on_own = All-from_recursion (λ call. (partition_of call < 2) × IsMaster two_by_two 0 (partition_of call)) own_calls ((omega arith, refl), ((omega arith, refl), ((omega arith, refl), tt)));
+  on_others = All-from_recursion (λ call. (partition_of call < 2) × (IsMaster two_by_two 0 (partition_of call) → ⊥)) asked_calls ((omega arith, λ e. omega (arith, e)), ((omega arith, λ e. omega (arith, e)), ((omega arith, λ e. omega (arith, e)), tt)));
+  master = own_to_the_end;
+  helper = other_asked;
+}
+
+-- a claim behind the refusal, a cursor that is left before it, and help that is not tried where it pays
+not_behind_refusal : EndsExhausted (Exhausted 0 ∷ Took 0 0 ∷ []) → ⊥
+not_behind_refusal ends = ends
+
+not_left : EndsExhausted (Took 0 0 ∷ Took 0 1 ∷ []) → ⊥
+not_left ends = ends
+
+not_idle : FollowsHeads two_by_two 1 1000 1 [] → ⊥
+not_idle follows = follows (omega arith)
+
+-- a tie is refused
+no_tie : Accepts 500 1000 1 100 → ⊥
+no_tie pays = omega (arith, pays)

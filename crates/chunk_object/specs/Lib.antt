@@ -1,3 +1,4 @@
 pub mod Object
 pub mod History
 pub mod Epochs
+pub mod Duty
