@@ -1,0 +1,12 @@
+pub mod WorkedExamples
+pub mod Builds
+pub mod BoolLemmas
+pub mod Shapes
+pub mod ClapTexts
+pub mod ClapRules
+pub mod Follow
+pub mod Read
+pub mod Numerals
+pub mod Parts
+pub mod GivenLemmas
+pub mod RangeLemmas
