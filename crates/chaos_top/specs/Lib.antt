@@ -1,0 +1,4 @@
+pub mod Endings
+pub mod Outcome
+pub mod Parts
+pub mod Words

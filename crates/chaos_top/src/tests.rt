@@ -1,0 +1,167 @@
+// Whole calls over sources and sinks in memory; what they must print was worked out by hand.
+//
+// A row has the words, the text, the status, what is printed and what is said, between semicolons. In texts `/` stands
+// for a line feed, `~` for a tab and `^` for a carriage return.
+use crate::chaos;
+use mem_devices::{MemSink, MemSource};
+use std::alloc::{AllocError, Global};
+use std::process::Abort;
+use std::test::Fail;
+
+const USAGE: &str =
+    "usage: chaos_cli run|bench|resume|drop [bfs ROOT|labels|sssp ROOT|degrees|pagerank ROUNDS] [options]/";
+
+fn words_of(alloc: Global, words: &str) -> Result<Vec<String>, AllocError> {
+    let mut all = Vec::new(alloc);
+    for word in words.split(' ') {
+        all.push(String::from_str(alloc, word)?)?;
+    }
+    Ok(all)
+}
+
+fn bytes_of(alloc: Global, shown: &str) -> Result<Vec<u8>, AllocError> {
+    let mut bytes = Vec::new(alloc);
+    for byte in shown.as_bytes() {
+        bytes.push(match byte {
+            b'/' => b'\n',
+            b'~' => b'\t',
+            b'^' => b'\r',
+            other => *other,
+        })?;
+    }
+    Ok(bytes)
+}
+
+// What a call answers, prints and says, over a source that gives three bytes a call.
+fn served(alloc: Global, words: &str, text: &[u8]) -> Result<(u8, MemSink, MemSink), Fail> {
+    let words = words_of(alloc, words)?;
+    let mut source = MemSource::new(alloc, text, 3, &[])?;
+    let mut out = MemSink::new(alloc, 100, &[])?;
+    let mut err = MemSink::new(alloc, 100, &[])?;
+    let status = chaos(alloc, &words, &mut source, &mut out, &mut err);
+    Ok((status, out, err))
+}
+
+fn said(sink: &MemSink, bytes: &[u8]) -> bool {
+    sink.written() == bytes
+}
+
+fn serve(rt: &impl Abort, alloc: Global, row: &str) -> Result<(), Fail> {
+    let columns: Vec<&str> = row.split(';').collect(alloc)?;
+    let [words, text, status, printed, message] = columns.as_slice() else {
+        return Err(Fail::new("a row has five columns"));
+    };
+    let text = bytes_of(alloc, text)?;
+    let printed = bytes_of(alloc, printed)?;
+    let message = bytes_of(alloc, message)?;
+    let (answer, out, err) = served(alloc, words, &text)?;
+    assert!(rt; status.parse() == Ok(answer), "{row}");
+    assert!(rt; said(&out, &printed), "{row}");
+    assert!(rt; said(&err, &message), "{row}");
+    Ok(())
+}
+
+fn serve_all(rt: &impl Abort, alloc: Global, rows: &str) -> Result<(), Fail> {
+    for row in rows.lines() {
+        serve(rt, alloc, row)?;
+    }
+    Ok(())
+}
+
+#[test]
+fn answers_are_printed(rt: HostRuntime) -> Result<(), Fail> {
+    serve_all(
+        &rt,
+        rt.alloc(),
+        "run bfs 0 --vertices 4;0 1/1 2/;0;0 0/1 1/2 2/3 -/;
+run bfs 00 --vertices 04;0 1/1 2/;0;0 0/1 1/2 2/3 -/;
+run bfs 0 --vertices 4 --limit 3;0 1/1 2/;0;0 0/1 1/2 2/3 -/;
+--seed=1 run --vertices 4 bfs 0;0 1/1 2/;0;0 0/1 1/2 2/3 -/;
+run labels --vertices 3;;0;0 0/1 1/2 2/;
+run labels --vertices 3;2 1/;0;0 0/1 1/2 1/;
+run degrees --vertices 0;;0;;
+run degrees --vertices 2;0 1/0 1/;0;0 0 2/1 2 0/;
+run sssp 0 --vertices 3;0 1 5/0 2 1/2 1 1/;0;0 0/1 2/2 1/;
+run sssp 0 --vertices 3 --limit 3;0 1 5/0 2 1/2 1 1/;0;0 0/1 2/2 1/;
+run sssp 0 --vertices 3;# Nodes: 3^/0~1^/^/1 2 7;0;0 0/1 1/2 8/;
+run sssp 0 --vertices 2;0 1 4294967296/;0;0 0/1 4294967296/;
+run sssp 0 --vertices 2;0 1 1099511627775/;0;0 0/1 1099511627775/;
+run pagerank 1 --vertices 3;0 1/0 2/1 2/;0;0 150000/1 575000/2 1425000/;
+run pagerank 2 --vertices 3 --limit 1;0 1/0 2/1 2/;0;0 150000/1 213750/2 702500/;",
+    )
+}
+
+#[test]
+fn refusals_print_nothing(rt: HostRuntime) -> Result<(), Fail> {
+    serve_all(
+        &rt,
+        rt.alloc(),
+        "run bfs 0 --vertices 0;0 1/;1;;usage: chaos_cli run|bench|resume|drop [bfs ROOT|labels|sssp ROOT|degrees|pagerank ROUNDS] [options]/
+run bfs 4 --vertices 4;0 1/;1;;usage: chaos_cli run|bench|resume|drop [bfs ROOT|labels|sssp ROOT|degrees|pagerank ROUNDS] [options]/
+run bfs 0 --vertices 4 more;0 1/;1;;usage: chaos_cli run|bench|resume|drop [bfs ROOT|labels|sssp ROOT|degrees|pagerank ROUNDS] [options]/
+run bfs 0 --vertices 4 --seed 1 --seed 1;0 1/;1;;usage: chaos_cli run|bench|resume|drop [bfs ROOT|labels|sssp ROOT|degrees|pagerank ROUNDS] [options]/
+run degrees 1 --vertices 2;0 1/;1;;usage: chaos_cli run|bench|resume|drop [bfs ROOT|labels|sssp ROOT|degrees|pagerank ROUNDS] [options]/
+run labels --vertices 1000 --most 10;0 1/;1;;usage: chaos_cli run|bench|resume|drop [bfs ROOT|labels|sssp ROOT|degrees|pagerank ROUNDS] [options]/
+run degrees --vertices 67108865;;1;;usage: chaos_cli run|bench|resume|drop [bfs ROOT|labels|sssp ROOT|degrees|pagerank ROUNDS] [options]/
+run bfs 0 --vertices 4 --report;0 1/;1;;usage: chaos_cli run|bench|resume|drop [bfs ROOT|labels|sssp ROOT|degrees|pagerank ROUNDS] [options]/
+resume;;1;;usage: chaos_cli run|bench|resume|drop [bfs ROOT|labels|sssp ROOT|degrees|pagerank ROUNDS] [options]/
+drop;;1;;usage: chaos_cli run|bench|resume|drop [bfs ROOT|labels|sssp ROOT|degrees|pagerank ROUNDS] [options]/
+bench degrees --scale 0 --edges 3;;1;;usage: chaos_cli run|bench|resume|drop [bfs ROOT|labels|sssp ROOT|degrees|pagerank ROUNDS] [options]/
+run bfs 0 --vertices 4;0 1/0 x/;2;;line 2 is malformed/
+run sssp 0 --vertices 2;0 2/;2;;line 1 is malformed/
+run sssp 0 --vertices 2;0 1 1099511627776/;2;;line 1 is malformed/
+run bfs 0 --vertices 4;0 1//# more/4 0;2;;line 4 is malformed/
+run bfs 0 --vertices 4 --limit 2;0 1/1 2/;4;;no fixpoint within 2 rounds/
+run sssp 0 --vertices 3 --limit 2;0 1 5/0 2 1/2 1 1/;4;;no fixpoint within 2 rounds/",
+    )
+}
+
+// The words of the path, over a source and a sink of which some calls fail.
+fn path_over(
+    alloc: Global,
+    mut source: MemSource,
+    out: &mut MemSink,
+) -> Result<(u8, MemSink), Fail> {
+    let words = words_of(alloc, "run bfs 0 --vertices 4")?;
+    let mut err = MemSink::new(alloc, 100, &[])?;
+    let status = chaos(alloc, &words, &mut source, out, &mut err);
+    Ok((status, err))
+}
+
+fn read_fails(rt: &impl Abort, alloc: Global, call: u64) -> Result<(), Fail> {
+    let source = MemSource::new(alloc, b"0 1\n1 2\n", 5, &[call])?;
+    let mut out = MemSink::new(alloc, 100, &[])?;
+    let (status, err) = path_over(alloc, source, &mut out)?;
+    assert_eq!(rt; status, 6);
+    assert!(rt; said(&out, b""));
+    assert!(rt; said(&err, b"read fault\n"));
+    Ok(())
+}
+
+#[test]
+fn a_read_fails_at_once_and_amid(rt: HostRuntime) -> Result<(), Fail> {
+    read_fails(&rt, rt.alloc(), 1)?;
+    read_fails(&rt, rt.alloc(), 2)
+}
+
+#[test]
+fn a_write_fails_amid(rt: HostRuntime) -> Result<(), Fail> {
+    let source = MemSource::new(rt.alloc(), b"0 1\n1 2\n", 100, &[])?;
+    let mut out = MemSink::new(rt.alloc(), 5, &[2])?;
+    let (status, err) = path_over(rt.alloc(), source, &mut out)?;
+    assert_eq!(rt; status, 7);
+    assert!(rt; said(&out, b"0 0\n1"));
+    assert!(rt; said(&err, b"write fault\n"));
+    Ok(())
+}
+
+#[test]
+fn a_message_that_fails_changes_no_status(rt: HostRuntime) -> Result<(), Fail> {
+    let words = words_of(rt.alloc(), "run bfs 0 --vertices 4")?;
+    let mut source = MemSource::new(rt.alloc(), b"0 x\n", 100, &[])?;
+    let mut out = MemSink::new(rt.alloc(), 100, &[])?;
+    let mut err = MemSink::new(rt.alloc(), 100, &[1])?;
+    let status = chaos(rt.alloc(), &words, &mut source, &mut out, &mut err);
+    assert_eq!(rt; status, 2);
+    Ok(())
+}
