@@ -1,6 +1,8 @@
 -- The number of partitions, as it is computed, is the least that is enough.
 use Rattle.std.proofs.Common.{◌≡◌, ◌+◌, ◌-◌, ◌*◌, ℕ, zero, ◌<◌, ◌≤◌, max, refl, ap, arith}
-use Rattle.std.proofs.Math.Nat.{div-lt_iff_lt-mul, mul-le-mul_left}
+use Rattle.std.specs.Int.{div_ceil}
+use Rattle.std.proofs.Math.Nat.{div-lt_iff_lt-mul, lt_of_mul-lt-mul_right, mul-le-mul_left}
+use Rattle.std.proofs.lemmas.Grind.{div_ceil_times}
 use Rattle.graph_model.specs.Partitions.{IsEnough, IsPartCount, ceil_div, part_count}
 
 -- a quotient that is rounded up is at most k exactly where k times the divisor reaches the number
@@ -16,6 +18,17 @@ below-ceil_div n b k positive reaches =
     let divisor : zero < b = omega arith in
     let product : n + (b - 1) < (k + 1) * b = omega arith in
     let quotient : ceil_div n b < k + 1 = (div-lt_iff_lt-mul divisor).1 product in
+    omega arith
+
+-- it is std's own, where the divisor is not 0
+pub ceil_div-div_ceil : (n b : ℕ) → 1 ≤ b → ceil_div n b ≡ div_ceil n b
+ceil_div-div_ceil n b positive =
+    let divisor : zero < b = omega arith in
+    let times = div_ceil_times n b divisor in
+    let at_most : ceil_div n b ≤ div_ceil n b = below-ceil_div n b (div_ceil n b) positive (omega (arith, times.0)) in
+    let reaches : n ≤ b * ceil_div n b = ceil_div-below n b (ceil_div n b) positive (omega arith) in
+    let fewer : div_ceil n b * b < (ceil_div n b + 1) * b = omega (arith, times.1) in
+    let at_least : div_ceil n b < ceil_div n b + 1 = lt_of_mul-lt-mul_right b fewer in
     omega arith
 
 one-le-product : (a b : ℕ) → 1 ≤ a → 1 ≤ b → 1 ≤ a * b

@@ -1,5 +1,5 @@
 -- The definitions, run on worked examples: each value here was computed by hand.
-use Rattle.std.proofs.Common.{◌≡◌, ℕ, ◌-◌, ◌^◌, ◌<◌, zero, suc, List, [], ◌∷◌, ◌++◌, Some, None, true, false, refl, ap, arith, codes}
+use Rattle.std.proofs.Common.{◌≡◌, ℕ, ◌-◌, ◌^◌, ◌<◌, zero, suc, List, map, [], ◌∷◌, ◌++◌, Some, None, true, false, refl, ap, arith, codes}
 use Rattle.graph_model.specs.declared.edge.Edge.{Edge}
 use Rattle.graph_model.specs.declared.edge.TextFault.TheVariants.{BadLine, TooLong}
 use Rattle.graph_model.specs.declared.edge.Meaning.TheVariants.{Nothing, One, Malformed}
@@ -7,9 +7,13 @@ use Rattle.std.specs.Fmt.{digits}
 use Rattle.graph_model.specs.EdgeText.{edges_of_text, refusal, refusal_so_far, text_limit, edges_of_lines, ended_lines, last_part, meaning, number, first_malformed}
 use Rattle.graph_model.specs.Programs.{Rules, plus, bfs, labels, sssp, degrees, pagerank}
 use Rattle.graph_model.specs.declared.value.Value.{Value}
-use Rattle.graph_model.specs.Rounds.{values, value_at, Repeats, IsLastRound, IsUnsettled}
+use Rattle.graph_model.specs.Rounds.{values, value_at, Repeats, IsLastRound, IsUnsettled, has_changed, sent_by_changed, next_by_changed}
 use Rattle.graph_model.specs.Answer.{text_of_values}
-use Rattle.graph_model.specs.Partitions.{ceil_div, part_count, first_vertex, partition_of, master_of}
+use Rattle.graph_model.specs.Partitions.{ceil_div, part_count, first_vertex, partition_of, master_of, part_len, own_vertices, own_count, own_before}
+use Rattle.std.specs.List.{range_with_len}
+use Rattle.graph_model.specs.declared.job.Job.{Job}
+use Rattle.graph_model.specs.declared.job.Program.TheVariants.{Sssp}
+use Rattle.graph_model.specs.Jobs.{IsWellFormedJob}
 
 -- the bytes of a line that a line feed ends
 abbrev text_line : List ℕ → List ℕ
@@ -280,3 +284,64 @@ parts_of_none = refl
 -- as many as there can be on eight engines with the default most
 parts_of_the_most : part_count 67108864 8 2097152 ≡ 32
 parts_of_the_most = refl
+
+-- the ranges of five vertices in four partitions, and what each of two engines is the master of
+lengths_of_five : map (part_len 5 4) (range_with_len 0 4) ≡ 2 ∷ 2 ∷ 1 ∷ 0 ∷ []
+lengths_of_five = refl
+
+owned_of_five : (own_vertices 5 2 4 0 ≡ 0 ∷ 1 ∷ 4 ∷ []) × (own_vertices 5 2 4 1 ≡ 2 ∷ 3 ∷ [])
+owned_of_five = (refl, refl)
+
+counts_of_five : (own_count 5 2 4 0 ≡ 3) × (own_count 5 2 4 1 ≡ 2) × (own_before 5 2 4 2 ≡ 2) × (own_before 5 2 4 1 ≡ 0)
+counts_of_five = (refl, refl, refl, refl)
+
+-- What changed: vertex 1 alone, so its edge alone sends.
+first_of_detour : List Value
+first_of_detour = values (sssp 0) 3 edges_of_detour 1
+
+second_of_detour : List Value
+second_of_detour = values (sssp 0) 3 edges_of_detour 2
+
+changed_in_round_2 : map (has_changed first_of_detour second_of_detour) (range_with_len 0 3) ≡ false ∷ true ∷ false ∷ []
+unfolding first_of_detour second_of_detour edges_of_detour detour values edges_of_lines ended_lines last_part meaning number first_malformed digits
+changed_in_round_2 = refl
+
+sent_in_round_2 : (sent_by_changed (sssp 0) edges_of_detour (values (sssp 0) 3 edges_of_detour 0) first_of_detour 1 ≡ 2 ∷ [])
+    × (next_by_changed (sssp 0) 3 edges_of_detour (values (sssp 0) 3 edges_of_detour 0) first_of_detour ≡ second_of_detour)
+unfolding first_of_detour second_of_detour edges_of_detour detour values edges_of_lines ended_lines last_part meaning number first_malformed digits
+sent_in_round_2 = (refl, refl)
+
+-- A job that can be run, and one whose root is no vertex.
+distances_job : ℕ → Job
+distances_job root = record {
+  program = Sssp root;
+  vertices = 3;
+  engines = 1;
+  most = 2097152;
+  chunk = 4096;
+  seed = 1;
+  alpha = 100;
+  limit = 100000;
+  format = 2;
+  keep = 1;
+}
+
+can_be_run : IsWellFormedJob (distances_job 0)
+unfolding distances_job
+can_be_run = record {
+  program = omega arith;
+  vertices = omega arith;
+  engines = (omega arith, omega arith);
+  most = (omega arith, omega arith);
+  chunk = (omega arith, omega arith);
+  seed = omega arith;
+  alpha = omega arith;
+  limit = (omega arith, omega arith);
+  format = (omega arith, omega arith);
+  keep = refl;
+  few_parts = omega arith;
+}
+
+has_no_such_root : ¬ (IsWellFormedJob (distances_job 3))
+unfolding distances_job
+has_no_such_root job = let root : 3 < 3 = job.program in omega arith
