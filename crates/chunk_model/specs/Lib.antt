@@ -1,0 +1,4 @@
+pub mod Chunks
+pub mod Buffers
+pub mod Layout
+pub mod ChunkBytes
