@@ -1,1 +1,2 @@
--- Nothing here is cited by a contract.
+pub mod FileState
+pub mod Reads
