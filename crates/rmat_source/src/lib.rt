@@ -1,0 +1,18 @@
+//! A large graph that a number stands for, and a summary of what was written.
+//!
+//! `RmatText` is a source of exactly the edge text that its scale, its number of edges and its number name; it is made
+//! line by line as it is read, and is never in memory as a whole. `Summary` is a sink that counts and marks exactly what
+//! is written to it. Neither ever fails, takes memory or touches anything outside.
+#![tactic(auto)]
+
+mod line;
+mod summary;
+mod text;
+mod words;
+mod written;
+
+pub use summary::Summary;
+pub use text::RmatText;
+
+#[cfg(test)]
+mod tests;
