@@ -1,4 +1,9 @@
 // The folder that files stand in.
+ghost use Rattle.std.specs.Prelude.{◌≡◌, ◌↔◌};
+ghost use Rattle.std.specs.IoError.{error_kind};
+ghost use Rattle.std.specs.declared.io.ErrorKind.TheVariants.{OutOfMemory};
+ghost use Rattle.real_devices.specs.declared.folder.OpenFault.TheVariants.{Memory};
+
 use std::alloc::AllocError;
 use std::fs::{self, File};
 use std::io::{self, ErrorKind};
@@ -14,12 +19,16 @@ pub enum OpenFault {
 }
 
 impl From<AllocError> for OpenFault {
+    ghost from_gives = { λ _ fault. fault ≡ Memory };
+
     fn from(_: AllocError) -> Self {
         OpenFault::Memory
     }
 }
 
 impl From<io::Error> for OpenFault {
+    ghost from_gives = { λ error fault. (fault ≡ Memory) ↔ (error_kind error ≡ OutOfMemory) };
+
     fn from(error: io::Error) -> Self {
         if error.kind() == ErrorKind::OutOfMemory {
             OpenFault::Memory

@@ -1,0 +1,4 @@
+pub mod Sent
+pub mod Counted
+pub mod Lists
+mod WorkedExamples
