@@ -1,0 +1,6 @@
+pub mod NumberLemmas
+pub mod AppendLemmas
+pub mod PlaceLemmas
+pub mod MergeSteps
+pub mod Pairs
+pub mod WorkedExamples

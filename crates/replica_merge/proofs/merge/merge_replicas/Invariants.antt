@@ -1,0 +1,12 @@
+use Rattle.std.proofs.Common.{◌≡◌, ℕ, ◌<◌, ◌≤◌, List, Some, length, take, map, get_or}
+use Rattle.graph_model.specs.Rounds.{merged}
+use Rattle.replica_merge.specs.Merging.{sums_for}
+use Rattle.replica_merge.proofs.merge.merge_replicas.Given as goal
+
+-- each sum is the merge over the workers so far
+abbrev pub invariant-loop-worker : goal.invariant-loop-worker
+invariant-loop-worker g l = record {
+  told : (devices : List (List ℕ)) → map (λ d. (g.D.Disk.state d).bytes) l.disks ≡ map (λ device. Some device) devices → (v : ℕ) → v < length l.into →
+      get_or l.into v 0 ≡ merged (g.P.VertexProgram.rules l.fn.program) (sums_for (take l.worker l.replicas) (take l.worker devices) l.partition v);
+  later : g.D.M.Meter.faults l.fn.meter ≤ g.D.M.Meter.faults l.meter;
+}

@@ -1,0 +1,5 @@
+pub mod Numbers
+pub mod Accumulators
+pub mod Lending
+pub mod Appending
+pub mod Merging
