@@ -1,0 +1,5 @@
+pub mod Chunks
+pub mod Causes
+pub mod Places
+pub mod Inside
+pub mod Scans

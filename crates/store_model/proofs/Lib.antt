@@ -1,0 +1,4 @@
+pub mod Growing
+pub mod SlotLemmas
+pub mod WorkedExamples
+pub mod DamageExamples
