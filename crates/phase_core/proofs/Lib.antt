@@ -1,0 +1,10 @@
+pub mod Tables
+pub mod Gathering
+pub mod Chunked
+pub mod Steps
+pub mod Merging
+pub mod Running
+pub mod Shelved
+pub mod Taking
+pub mod Drained
+pub mod WorkedExamples
