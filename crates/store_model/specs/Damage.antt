@@ -216,7 +216,7 @@ HasFault graphs values fault =
     ⊎ (IsPrepared graphs × (heads_fault graphs ≡ Some fault))
     ⊎ (IsPrepared graphs × (heads_fault graphs ≡ None) × ((e : ℕ) × (at : ℕ) × (fault ≡ GraphDamaged e at) × StopsAt (head_of graphs 0) graphs e at))
     ⊎ (IsPrepared graphs × (heads_fault graphs ≡ None) × ((made : ℕ → List (Chunk Edge)) × AreChunks (head_of graphs 0) graphs made)
-      × (values_fault (head_of graphs 0) values ≡ Some fault))
+    × (values_fault (head_of graphs 0) values ≡ Some fault))
 
 -- **None fails**: the graph devices have these chunks.
 pub record IsSound (graphs values : List (List ℕ)) (made : ℕ → List (Chunk Edge)) : Type 0 where
