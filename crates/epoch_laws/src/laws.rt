@@ -1,0 +1,45 @@
+//! The laws. Each stands on the contract of a function that does nothing.
+ghost use Rattle.std.specs.Prelude.{◌≡◌, ℕ, ◌-◌, ◌<◌, ◌≤◌, List, Option, true};
+ghost use Rattle.graph_model.specs.declared.edge.Edge.{Edge};
+ghost use Rattle.graph_model.specs.declared.value.Value.{Value};
+ghost use Rattle.graph_model.specs.declared.job.Job.{Job};
+ghost use Rattle.graph_model.specs.Jobs.{IsWellFormedJob};
+ghost use Rattle.graph_model.specs.Rounds.{IsWithinGraph, merged, of_vertices, out_degree, value_at, values};
+ghost use Rattle.chunk_object.specs.Epochs.{Epoch, TakesEachOnce};
+ghost use Rattle.phase_model.specs.JobTerms.{terms_of};
+ghost use Rattle.phase_model.specs.Sends.{sent_by};
+ghost use Rattle.phase_model.specs.Sums.{values_to};
+ghost use Rattle.epoch_laws.specs.Phases.{MaySend, Opens, counted, edge_shelf, gathered, merged_over, sending_in, updates_of};
+
+use gather_laws::VertexProgram;
+
+/// In a round whose scatter epoch takes each chunk of edges once, and whose gather epoch takes each update chunk of that
+/// once, the merge of all workers' sums for a vertex is the merge of what the senders' edges send to it, whoever took
+/// what; and the next values of that are the values of the round.
+pub fn round_is_gathered<P: VertexProgram>(program: &P)
+    ensures sums { (job : Job) (edges : List Edge) → IsWellFormedJob job → IsWithinGraph job.vertices edges →
+        (round : ℕ) (before : Option (List Value)) (t : ℕ) (scatter gather : Epoch) →
+        Opens (edge_shelf job edges) scatter → TakesEachOnce (terms_of job) scatter →
+        Opens (updates_of job edges (sending_in (P.rules program.now) job.vertices edges round before) t scatter) gather → TakesEachOnce (terms_of job) gather →
+        (vertex : ℕ) →
+        merged_over (P.rules program.now) (gathered (P.rules program.now) (updates_of job edges (sending_in (P.rules program.now) job.vertices edges round before) t scatter) vertex) gather
+        ≡ merged (P.rules program.now) (values_to vertex (sent_by (sending_in (P.rules program.now) job.vertices edges round before) edges)) }
+    ensures next { (job : Job) (edges : List Edge) → IsWellFormedJob job → IsWithinGraph job.vertices edges →
+        (round : ℕ) (before : Option (List Value)) → 1 ≤ round → MaySend (P.rules program.now) job.vertices edges round before → (t : ℕ) (scatter gather : Epoch) →
+        Opens (edge_shelf job edges) scatter → TakesEachOnce (terms_of job) scatter →
+        Opens (updates_of job edges (sending_in (P.rules program.now) job.vertices edges round before) t scatter) gather → TakesEachOnce (terms_of job) gather →
+        values (P.rules program.now) job.vertices edges round
+        ≡ of_vertices job.vertices (λ vertex. (P.rules program.now).next (value_at (values (P.rules program.now) job.vertices edges (round - 1)) vertex)
+        (merged_over (P.rules program.now) (gathered (P.rules program.now) (updates_of job edges (sending_in (P.rules program.now) job.vertices edges round before) t scatter) vertex) gather)) }
+{}
+
+/// For a program that uses the number of edges, where a count epoch takes each chunk of edges once, the merge of all
+/// workers' counts for a vertex is the number of edges out of it, capped, and the start values of that are the values of
+/// round 0. For every other program they are that for any number.
+pub fn edges_are_counted<P: VertexProgram>(program: &P)
+    ensures counts { (job : Job) (edges : List Edge) → IsWellFormedJob job → IsWithinGraph job.vertices edges → (P.rules program.now).counts ≡ true →
+        (count : Epoch) → Opens (edge_shelf job edges) count → TakesEachOnce (terms_of job) count →
+        (vertex : ℕ) → merged_over (P.rules program.now) (counted (edge_shelf job edges) vertex) count ≡ out_degree edges vertex }
+    ensures start { (vertices : ℕ) (edges : List Edge) (numbers : ℕ → ℕ) → ((P.rules program.now).counts ≡ true → (vertex : ℕ) → vertex < vertices → numbers vertex ≡ out_degree edges vertex) →
+        values (P.rules program.now) vertices edges 0 ≡ of_vertices vertices (λ vertex. (P.rules program.now).start vertex (numbers vertex)) }
+{}
