@@ -1,6 +1,8 @@
 -- Numbers and values, read from the bytes of a device.
-use Rattle.std.proofs.Common.{◌≡◌, ◌∙◌, ◌↔◌, ℕ, ◌+◌, ◌*◌, ◌<◌, List, [], ◌∷◌, ◌++◌, length, take, drop, set, flat_map, get_or, ap, sym, subst, arith, rules, nat_eq, IsTrue}
+use Rattle.std.proofs.Common.{◌≡◌, ◌∙◌, ◌↔◌, ℕ, ◌+◌, ◌*◌, ◌<◌, ◌^◌, List, [], ◌∷◌, ◌++◌, length, take, drop, set, flat_map, get_or, ap, sym, subst, arith, rules, nat_eq, IsTrue}
 use Rattle.std.specs.Int.{to_be_bytes, w64}
+use Rattle.std.specs.List.{All}
+use Rattle.std.proofs.lemmas.List.Elements.{All-push}
 use Rattle.std.proofs.lemmas.List.{take_more_set}
 use Rattle.std.proofs.lemmas.Grind.{flat_map-append}
 use Rattle.std.proofs.Math.Seq.{take-add}
@@ -34,6 +36,15 @@ value_more k bytes into value within so_far main side =
     ∙ ap (λ rest. take (16 * k) bytes ++ rest) (none ∙ piece)
     ∙ sym (take-add (16 * k) 16 bytes)
     ∙ ap (λ n. take n bytes) (sym long)
+
+-- the numbers of each value that was read are below 2^64
+abbrev pub HasRoom : Value → Type 0
+HasRoom value = (value.main < 2 ^ 64) × (value.side < 2 ^ 64)
+
+pub held_more : (k : ℕ) (into : List Value) (value : Value) → k < length into → HasRoom value
+    → All HasRoom (take k into) → All HasRoom (take (k + 1) (set into k value))
+held_more k into value within room so_far =
+    subst (All HasRoom) (sym (take_more_set into k value within)) (All-push HasRoom (take k into) value so_far room)
 
 -- the head of a slot
 pub tells_head : (own slot at : ℕ) (read bytes : List ℕ) (head : SlotHead) → at ≡ slot_start own slot → read ≡ bytes_at at 24 bytes

@@ -1,5 +1,5 @@
 //! What stands on the graph devices and values devices of a store.
-ghost use Rattle.std.specs.Prelude.{◌≡◌, ◌+◌, ◌*◌, ◌<◌, ◌≤◌, IfOk, OnOk, IfSome, IsTrue, IsFalse, length};
+ghost use Rattle.std.specs.Prelude.{◌≡◌, ◌+◌, ◌*◌, ◌^◌, ◌<◌, ◌≤◌, IfOk, OnOk, IfSome, IsTrue, IsFalse, length};
 ghost use Rattle.std.specs.Int.{to_be_bytes, w64};
 ghost use Rattle.std.specs.List.{All};
 ghost use Rattle.ports.specs.Bytes.{bytes_at};
@@ -95,6 +95,7 @@ pub fn read_set<D: Disk>(
     requires into { length into.old ≡ len_in split.now partition }
     ensures values { OnOk result (IfSome (D.state disk.now).bytes (λ told. values_bytes into.new
         ≡ set_bytes (own_in split.now (master_in split.now partition)) slot (before_in split.now partition) (len_in split.now partition) told)) }
+    ensures held { OnOk result (All (λ v. (v.main < 2 ^ 64) × (v.side < 2 ^ 64)) into.new) }
     ensures cause { HasCause (D.M.faults meter.old) (D.M.faults meter.new) result }
 {
     let own = split.own(split.master_of(partition));
@@ -115,7 +116,8 @@ fn slot_start(own: u32, slot: u32) -> u64
 /// Reads values from 16 bytes each.
 fn decode_values(bytes: &[u8], into: &mut [Value])
     requires { length bytes.now ≡ 16 * length into.old }
-    ensures { values_bytes into.new ≡ bytes.now }
+    ensures read { values_bytes into.new ≡ bytes.now }
+    ensures held { All (λ v. (v.main < 2 ^ 64) × (v.side < 2 ^ 64)) into.new }
 {
     for k in 0..into.len() {
         into[k] = Value {
