@@ -5,3 +5,6 @@ pub mod Counts
 pub mod Updates
 pub mod Rounds
 pub mod WorkedExamples
+pub mod Events
+pub mod Duties
+pub mod Machines

@@ -1,5 +1,6 @@
 -- The definitions on worked examples: least distances from vertex 0 over three edges, on one engine.
-use Rattle.std.proofs.Common.{◌≡◌, ℕ, List, [], ◌∷◌, Some, None, refl, arith}
+use Rattle.std.proofs.Common.{◌≡◌, ℕ, ◌<◌, List, [], ◌∷◌, map, Some, None, refl, sym, subst, arith}
+use Rattle.std.proofs.lemmas.List.Elements.{All-cons, All-nil}
 use Rattle.rand_core.specs.Steps.{u32_at}
 use Rattle.rand_chacha.specs.Block.{block_word, double_rounds, diagonal_round, quarter_round, column_round}
 use Rattle.graph_model.specs.declared.edge.Edge.{Edge}
@@ -10,7 +11,12 @@ use Rattle.graph_model.specs.Programs.{sssp, degrees}
 use Rattle.graph_model.specs.Rounds.{values}
 use Rattle.chunk_object.specs.declared.call.Call.{Call}
 use Rattle.chunk_object.specs.declared.call.Call.TheVariants.{Took, Exhausted}
-use Rattle.chunk_object.specs.Epochs.{Epoch}
+use Rattle.chunk_object.specs.declared.call.Entry.{Entry}
+use Rattle.chunk_object.specs.Object.{ChunkObject}
+use Rattle.chunk_object.specs.History.{one_below}
+use Rattle.chunk_object.specs.Epochs.{Terms, Epoch, list_of}
+use Rattle.phase_core.specs.declared.event.Event.TheVariants.{Claim}
+use Rattle.epoch_laws.specs.Turns.{no_rights, InTurn, EpochHistory, calls_of_worker, event_at}
 use Rattle.seeded_place.specs.Placing.{placing_key, engine_of}
 use Rattle.phase_model.specs.Shelves.{lens_of, records_at}
 use Rattle.epoch_laws.specs.Phases.{edge_shelf, Opens, sent_in, updates_of, gathered, counted, merged_over, MaySend, sending_in}
@@ -60,3 +66,36 @@ gathered_in_round_1 = refl
 edges_out_of_vertex_0 : merged_over degrees (counted (edge_shelf job edges) 0) one_chunk ≡ 2
 unfolding engine_of placing_key block_word double_rounds diagonal_round quarter_round column_round u32_at
 edges_out_of_vertex_0 = refl
+
+-- The calls of one worker in a legal history: it takes the one chunk, and is told that none is left.
+abbrev terms : Terms
+terms = record { engines = 1; partitions = 1; set_bytes = λ partition. 48; chunk_bytes = 49160; alpha = 100 }
+
+abbrev epoch : Epoch
+epoch = record { lens = one_below 1; lists = calls ∷ [] }
+
+abbrev opened : ChunkObject
+opened = record { next = λ cursor. 0; len = one_below 1; heads = λ partition. 1 }
+
+abbrev took : Entry
+took = record { serial = 1; worker = 0; call = Took 0 0 }
+
+abbrev told : Entry
+told = record { serial = 1; worker = 0; call = Exhausted 0 }
+
+abbrev history : List Entry
+history = took ∷ told ∷ []
+
+one_worker : EpochHistory terms epoch opened history
+one_worker = record {
+  opened = record { next = λ cursor theirs. refl; len = λ cursor theirs. refl; heads = λ partition below. refl };
+  legal = ((refl, omega arith), (omega arith, tt));
+  workers = All-cons (λ (e : Entry). e.worker < 1) took (told ∷ []) (omega arith) (All-cons (λ (e : Entry). e.worker < 1) told [] (omega arith) (All-nil (λ (e : Entry). e.worker < 1)));
+  lists = λ worker below. let first : worker ≡ 0 = omega arith in subst (λ k. calls_of_worker k history ≡ list_of epoch k) (sym first) refl;
+}
+
+events : map event_at history ≡ Claim 0 0 0 ∷ Claim 0 0 0 ∷ []
+events = refl
+
+in_turn : InTurn terms 0 no_rights calls
+in_turn = (record { theirs = (omega arith, omega arith); works_there = refl; not_refused = refl }, (record { theirs = (omega arith, omega arith); works_there = refl; not_refused = refl }, tt))

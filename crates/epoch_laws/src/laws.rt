@@ -1,11 +1,20 @@
 //! The laws. Each stands on the contract of a function that does nothing.
-ghost use Rattle.std.specs.Prelude.{◌≡◌, ℕ, ◌-◌, ◌<◌, ◌≤◌, List, Option, true};
+ghost use Rattle.std.specs.Prelude.{◌≡◌, ℕ, ◌-◌, ◌<◌, ◌≤◌, List, Option, true, map};
 ghost use Rattle.graph_model.specs.declared.edge.Edge.{Edge};
 ghost use Rattle.graph_model.specs.declared.value.Value.{Value};
 ghost use Rattle.graph_model.specs.declared.job.Job.{Job};
 ghost use Rattle.graph_model.specs.Jobs.{IsWellFormedJob};
 ghost use Rattle.graph_model.specs.Rounds.{IsWithinGraph, merged, of_vertices, out_degree, value_at, values};
-ghost use Rattle.chunk_object.specs.Epochs.{Epoch, TakesEachOnce};
+ghost use Rattle.graph_model.specs.declared.value.Update.{Update};
+ghost use Rattle.partitioner.specs.declared.split.Split.{Split};
+ghost use Rattle.chunk_object.specs.declared.call.Entry.{Entry};
+ghost use Rattle.chunk_object.specs.Object.{ChunkObject};
+ghost use Rattle.chunk_object.specs.Duty.{MeetsDuty};
+ghost use Rattle.chunk_object.specs.Epochs.{Terms, Epoch, TakesEachOnce, list_of};
+ghost use Rattle.phase_model.specs.Shelves.{Shelf};
+ghost use Rattle.phase_core.specs.Machine.{fresh};
+ghost use Rattle.phase_core.specs.Runs.{ran, replies, reply_of};
+ghost use Rattle.epoch_laws.specs.Turns.{EpochHistory, event_at};
 ghost use Rattle.phase_model.specs.JobTerms.{terms_of};
 ghost use Rattle.phase_model.specs.Sends.{sent_by};
 ghost use Rattle.phase_model.specs.Sums.{values_to};
@@ -42,4 +51,20 @@ pub fn edges_are_counted<P: VertexProgram>(program: &P)
         (vertex : ℕ) → merged_over (P.rules program.now) (counted (edge_shelf job edges) vertex) count ≡ out_degree edges vertex }
     ensures start { (vertices : ℕ) (edges : List Edge) (numbers : ℕ → ℕ) → ((P.rules program.now).counts ≡ true → (vertex : ℕ) → vertex < vertices → numbers vertex ≡ out_degree edges vertex) →
         values (P.rules program.now) vertices edges 0 ≡ of_vertices vertices (λ vertex. (P.rules program.now).start vertex (numbers vertex)) }
+{}
+
+/// In an epoch in which each worker's list meets its duty, the workers' calls in one legal history are events that the
+/// pure machine, opened with the same chunks, answers alike, so none comes at the wrong time; and the machine's sums are
+/// then those of each worker's own list.
+pub fn calls_are_events<P: VertexProgram>(program: &P)
+    ensures replies { (terms : Terms) (epoch : Epoch) → terms.partitions ≤ 64 → MeetsDuty terms epoch →
+        (split : Split) → split.engines ≡ terms.engines → split.parts ≡ terms.partitions →
+        (chunks : Shelf Update) → Opens chunks epoch → (o : ChunkObject) (history : List Entry) → EpochHistory terms epoch o history →
+        replies (P.rules program.now) (fresh split (P.rules program.now).unit chunks) (map event_at history) ≡ map (λ (e : Entry). reply_of e.call) history }
+    ensures sums { (terms : Terms) (epoch : Epoch) → terms.partitions ≤ 64 → MeetsDuty terms epoch →
+        (split : Split) → split.engines ≡ terms.engines → split.parts ≡ terms.partitions →
+        (chunks : Shelf Update) → Opens chunks epoch → (o : ChunkObject) (history : List Entry) → EpochHistory terms epoch o history →
+        (worker vertex : ℕ) → worker < terms.engines →
+        (ran (P.rules program.now) (fresh split (P.rules program.now).unit chunks) (map event_at history)).sums worker vertex
+        ≡ gathered (P.rules program.now) chunks vertex (list_of epoch worker) }
 {}

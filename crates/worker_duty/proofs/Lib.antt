@@ -5,3 +5,4 @@ pub mod Parts
 pub mod Cursors
 pub mod Shares
 pub mod Duties
+pub mod Beginnings

@@ -12,7 +12,9 @@
 mod acts;
 mod ask;
 mod duty;
+mod laws;
 
 pub use acts::{Acts, Phase, Share, Step, Worked};
 pub use ask::ask_about;
 pub use duty::work;
+pub use laws::seats_may_work;
