@@ -1,0 +1,83 @@
+use Rattle.std.proofs.Common.{◌≡◌, ◌^◌, ◌<◌, Bool, cond, length, take, inl, inr, refl, ap, sym, ◌∙◌, arith}
+use Rattle.graph_model.specs.Programs.{plus}
+use Rattle.chunk_object.specs.Epochs.{cursor_of}
+use Rattle.replica_merge.specs.Accumulators.{sums_of, len_of}
+use Rattle.gather_phase.specs.Phases.{lens_of, Takes, part_of, adding_of}
+use Rattle.gather_phase.proofs.Reading.{updates_within, takes_updates, refuses_updates}
+use Rattle.gather_phase.proofs.Serving.{met_none, come_begun, come_split, come_stays, met_more, taken_of, long_sums}
+use Rattle.gather_phase.proofs.chunk.serve_updates.Goals as goal
+
+pub add_updates-requires-clause-within : goal.add_updates-requires-clause-within
+add_updates-requires-clause-within g c κs within =
+    let begun = come_begun _ _ _ _ _ _ _ _ _ _ _ _ _ c.requires.may.at.at c.come_to.ensures.come in
+    let split = come_split _ _ _ _ _ _ _ _ _ _ _ _ _ c.requires.may.at.at c.come_to.ensures.come in
+    updates_within c.args.context.now.serving.split.now c.args.partition c.range-first.result.0 (length (sums_of c.come_to.new.replicas)) (length c.read_records-served.new.into.items) (take c.in-Chunk.count c.read_records-served.new.into.items) c.requires.serving.split c.range-first.ensures.first
+    (long_sums c.come_to.new.replicas c.args.partition begun ∙ ap (λ s. len_of s c.args.partition) split) c.in-Chunk.ensures.served.2.are
+
+pub returns-in-Exhausted : goal.returns-in-Exhausted
+returns-in-Exhausted g c = record {
+  goes_on = record { worker = refl; split = refl; room = λ job is. record { updates = c.in-Exhausted.ensures.rooms.1 ∙ is.updates; edges = is.edges; bytes = c.in-Exhausted.ensures.rooms.0 ∙ is.bytes }; reads = c.in-Exhausted.ensures.later; writes = omega arith; caused = λ is. inl is };
+  table_is = c.in-Exhausted.ensures.table;
+  call = c.in-Exhausted.ensures.served.call;
+  at = λ ne. record {
+    at = met_none _ _ _ _ _ _ _ _ _ _ _ (cursor_of c.args.engine c.args.partition) _ _ c.requires.may.at.at c.in-Exhausted.ensures.served.call;
+    room = record { updates = c.in-Exhausted.ensures.rooms.1 ∙ c.requires.may.at.room.updates; edges = c.requires.may.at.room.edges; bytes = c.in-Exhausted.ensures.rooms.0 ∙ c.requires.may.at.room.bytes };
+    done = c.requires.may.at.done;
+  };
+  stopped = λ e. cc;
+}
+
+pub returns-in-Chunk : goal.returns-in-Chunk
+returns-in-Chunk g c =
+    let served = c.in-Chunk.ensures.served in
+    let job = c.requires.serving.job in
+    let below : c.args.partition < c.args.context.now.serving.split.now.parts = omega (arith, c.requires.may.partition_is, c.requires.serving.of_job.parts) in
+    let small : c.args.partition < 64 = omega (arith, c.requires.may.partition_is, job.few_parts) in
+    let tiny : c.args.partition < 2 ^ 32 = omega arith in
+    let few : c.args.context.now.serving.job.now.chunk < 2 ^ 32 = omega (arith, job.chunk.1) in
+    let is_of = taken_of c.args.context.now.serving.job.now.engines c.args.context.now.serving.split.now.parts (lens_of c.args.context.now.serving.index.now) _ c.args.engine c.args.partition served.0 small c.requires.may.engine_is below c.requires.may.ready served.1.given in
+    let long : length c.read_records-served.new.into.items ≡ c.args.context.now.serving.job.now.chunk = c.in-Chunk.ensures.rooms.1 ∙ c.requires.may.at.room.updates in
+    record {
+      goes_on = record { worker = refl; split = c.add_updates.ensures.same.split ∙ come_stays _ _ _ c.args.partition c.come_to.ensures.come; room = λ job is. record { updates = c.in-Chunk.ensures.rooms.1 ∙ is.updates; edges = is.edges; bytes = c.in-Chunk.ensures.rooms.0 ∙ is.bytes }; reads = c.in-Chunk.ensures.later; writes = omega arith; caused = λ is. inl is };
+      table_is = c.in-Chunk.ensures.table;
+      call = record { place = served.0; call = served.1.call; may = served.1.given };
+      at = λ ne. record {
+        at = met_more (adding_of g.P.VertexProgram.rules g.D.Disk.state c.args.context.now) c.args.context.now.serving.job.now.engines (lens_of c.args.context.now.serving.index.now) (Takes g.D.Disk.state c.args.context.now.counting c.args.context.now.serving) _ _ _ _ c.args.partition (g.P.VertexProgram.rules c.args.context.now.program.now).fold c.range-first.result.0 _ _ (cursor_of c.args.engine c.args.partition) served.0 _ _ _ _ _ (take c.in-Chunk.count c.read_records-served.new.into.items)
+            (ap (λ (b : Bool). cond b plus (g.P.VertexProgram.rules c.args.context.now.program.now).fold) (sym c.requires.kind)) c.range-first.ensures.first c.requires.may.at.at c.come_to.ensures.come c.come_to.ensures.begun c.add_updates.ensures.same c.add_updates.ensures.begun c.add_updates.ensures.summed (omega arith) is_of
+            (λ items takes. takes_updates g.D.Disk.state c.args.context.now.serving c.args.engine c.args.partition served.0 tiny few c.requires.may.engine_is below (omega (arith, is_of.place)) c.args.context.now.counting c.requires.kind items takes c.in-Chunk.count c.read_records-served.new.into.items long served.2) served.1.call;
+        room = record { updates = long; edges = c.requires.may.at.room.edges; bytes = c.in-Chunk.ensures.rooms.0 ∙ c.requires.may.at.room.bytes };
+        done = c.requires.may.at.done;
+      };
+      stopped = λ e. cc;
+    }
+
+pub returns-in-Damaged : goal.returns-in-Damaged
+returns-in-Damaged g c =
+    let served = c.in-Damaged.ensures.served in
+    let job = c.requires.serving.job in
+    let below : c.args.partition < c.args.context.now.serving.split.now.parts = omega (arith, c.requires.may.partition_is, c.requires.serving.of_job.parts) in
+    let small : c.args.partition < 64 = omega (arith, c.requires.may.partition_is, job.few_parts) in
+    let tiny : c.args.partition < 2 ^ 32 = omega arith in
+    let few : c.args.context.now.serving.job.now.chunk < 2 ^ 32 = omega (arith, job.chunk.1) in
+    let is_of = taken_of c.args.context.now.serving.job.now.engines c.args.context.now.serving.split.now.parts (lens_of c.args.context.now.serving.index.now) _ c.args.engine c.args.partition served.0 small c.requires.may.engine_is below c.requires.may.ready served.1.given in
+    record {
+      goes_on = record { worker = refl; split = refl; room = λ job is. record { updates = c.in-Damaged.ensures.rooms.1 ∙ is.updates; edges = is.edges; bytes = c.in-Damaged.ensures.rooms.0 ∙ is.bytes }; reads = c.in-Damaged.ensures.later; writes = omega arith; caused = λ is. absurd cc };
+      table_is = c.in-Damaged.ensures.table;
+      call = record { place = served.0; call = served.1.call; may = served.1.given };
+      at = λ ne. absurd (ne refl);
+      stopped = λ e. record {
+        why = (ap part_of (sym c.requires.kind), λ items takes. refuses_updates g.D.Disk.state c.args.context.now.serving c.args.engine c.args.partition served.0 tiny few c.requires.may.engine_is below (omega (arith, is_of.place)) c.args.context.now.counting c.requires.kind items takes _ _ c.requires.may.at.room.updates served.2);
+        in_time = c.requires.may.at.at.in_time;
+      };
+    }
+
+pub returns-in-DiskFault : goal.returns-in-DiskFault
+returns-in-DiskFault g c =
+    let served = c.in-DiskFault.ensures.served in
+    record {
+      goes_on = record { worker = refl; split = refl; room = λ job is. record { updates = c.in-DiskFault.ensures.rooms.1 ∙ is.updates; edges = is.edges; bytes = c.in-DiskFault.ensures.rooms.0 ∙ is.bytes }; reads = c.in-DiskFault.ensures.later; writes = omega arith; caused = λ is. inr (inl served.2) };
+      table_is = c.in-DiskFault.ensures.table;
+      call = record { place = served.0; call = served.1.call; may = served.1.given };
+      at = λ ne. absurd (ne refl);
+      stopped = λ e. record { why = tt; in_time = c.requires.may.at.at.in_time };
+    }

@@ -1,0 +1,97 @@
+-- What a gather phase says of the desks of its workers.
+use Rattle.std.specs.Prelude.{◌≡◌, ◌⊎◌, ℕ, ◌≤◌, ◌<◌, Bool, true, false, if◌then◌else◌, Some, List, length, slice_index_or}
+use Rattle.graph_model.specs.declared.edge.Edge.{Edge}
+use Rattle.graph_model.specs.declared.value.Update.{Update}
+use Rattle.graph_model.specs.declared.job.Job.{Job}
+use Rattle.graph_model.specs.Programs.{Rules, plus}
+use Rattle.graph_model.specs.Jobs.{IsWellFormedJob}
+use Rattle.ports.specs.Disk.{DiskState}
+use Rattle.ports.specs.Faults.{Rose}
+use Rattle.partitioner.specs.Splits.{IsSplit, IsSplitOf}
+use Rattle.chunk_object.specs.Epochs.{cursor_of}
+use Rattle.chunk_object.specs.History.{most_chunks}
+use Rattle.chunk_model.specs.Layout.{Layout, edge_layout, update_layout}
+use Rattle.chunk_file.specs.declared.index.Place.{Place}
+use Rattle.chunk_file.specs.Places.{places_of, no_places}
+use Rattle.chunk_file.specs.Chunks.{IsChunkIn}
+use Rattle.storage_engine.specs.declared.store.Outcome.{Outcome}
+use Rattle.storage_engine.specs.declared.store.Outcome.TheVariants.{Done, DiskFault, Damaged, Memory}
+use Rattle.storage_engine.specs.declared.store.Part.{Part}
+use Rattle.storage_engine.specs.declared.store.Part.TheVariants.{Graph, Lane}
+use Rattle.storage_engine.specs.declared.serving.Serving.{Serving}
+use Rattle.storage_engine.specs.Serving.{told_at, HasDevices, place_at}
+use Rattle.phase_model.specs.Sums.{counts_of}
+use Rattle.gather_phase.specs.declared.desk.GatherContext.{GatherContext}
+use Rattle.gather_phase.specs.declared.desk.GatherDesk.{GatherDesk}
+use Rattle.gather_phase.specs.Gathering.{Adding, Rests, Meets}
+use Rattle.replica_merge.specs.Accumulators.{split_of}
+use Rattle.gather_phase.specs.Rooms.{IsRoom}
+
+-- with how many chunks the cursors are opened that have these places
+abbrev pub lens_of : List (List Place) → ℕ → ℕ
+lens_of index cursor = length (slice_index_or index cursor no_places)
+
+-- the kind of devices that edges are on, and updates
+abbrev pub part_of : Bool → Part
+part_of true = Graph
+part_of false = Lane
+
+module _ {D M : Type 0} (state : D → DiskState) where
+  -- each chunk of the index stands on a device that tells its bytes, and has these records
+  abbrev pub HasRecords : {X : Type 0} → Layout X → Serving D M → (ℕ → ℕ → List X) → Type 0
+  HasRecords layout serving records =
+      (engine partition t : ℕ) → engine < serving.job.now.engines → partition < serving.split.now.parts → t < length (places_of serving.index.now engine partition)
+      → (bytes : List ℕ) × (told_at state serving.shelf engine (place_at serving.index.now engine partition t).lane ≡ Some bytes)
+      × IsChunkIn layout serving.split.now serving.job.now.chunk partition (place_at serving.index.now engine partition t).at bytes (records (cursor_of engine partition) t)
+
+  -- what is taken from each chunk: its updates, or 1 for each of its edges at the source
+  abbrev pub Takes : Bool → Serving D M → (ℕ → ℕ → List Update) → Type 0
+  Takes true serving items = (edges : ℕ → ℕ → List Edge) × HasRecords (edge_layout serving.job.now.format) serving edges × ((cursor t : ℕ) → items cursor t ≡ counts_of (edges cursor t))
+  Takes false serving items = HasRecords update_layout serving items
+
+-- The chunks are those of a job, in partitions of its split; they are few, and the shelf has their devices.
+pub record IsServing {D M : Type 0} (serving : Serving D M) : Type 0 where
+  pub job : IsWellFormedJob serving.job.now
+  pub split : IsSplit serving.split.now
+  pub of_job : IsSplitOf serving.job.now serving.split.now
+  pub few : (cursor : ℕ) → lens_of serving.index.now cursor ≤ most_chunks
+  pub devices : (engine partition : ℕ) → engine < serving.job.now.engines → partition < serving.split.now.parts → HasDevices serving.shelf engine (places_of serving.index.now engine partition)
+
+module _ {D M : Type 0} (state : D → DiskState) (faults : M → ℕ) where
+  -- how a desk goes on: its worker, split and rooms stay, counts of faults never fall, and a disk fault is answered only where one rose
+  pub record GoesOn (old new : GatherDesk D M) : Type 0 where
+    pub worker : new.worker ≡ old.worker
+    pub split : split_of new.replicas ≡ split_of old.replicas
+    pub room : (job : Job) → IsRoom job old.room → IsRoom job new.room
+    pub reads : faults old.meter ≤ faults new.meter
+    pub writes : (state old.spill).faults ≤ (state new.spill).faults
+    pub caused : new.outcome ≡ DiskFault → (old.outcome ≡ DiskFault) ⊎ (Rose (faults old.meter) (faults new.meter) ⊎ Rose (state old.spill).faults (state new.spill).faults)
+
+module _ {P D G M : Type 0} (rules : P → Rules) (state : D → DiskState) where
+  abbrev pub adding_of : GatherContext P D G M → Adding
+  adding_of c = record {
+    add = if c.counting then plus else (rules c.program.now).fold;
+    unit = if c.counting then 0 else (rules c.program.now).unit;
+    split = c.serving.split.now;
+  }
+
+  pub record DeskRests (c : GatherContext P D G M) (desk : GatherDesk D M) (chunks : List (ℕ × ℕ)) : Type 0 where
+    pub at : Rests (adding_of c) c.serving.job.now.engines (lens_of c.serving.index.now) (Takes state c.counting c.serving) (state desk.spill).bytes (state desk.spill).size (state desk.spill).beat c.beat.now desk.replicas desk.room.begun chunks
+    pub room : IsRoom c.serving.job.now desk.room
+    pub done : desk.outcome ≡ Done
+
+  pub record DeskMeets (c : GatherContext P D G M) (desk : GatherDesk D M) (partition : ℕ) (chunks : List (ℕ × ℕ)) : Type 0 where
+    pub at : Meets (adding_of c) c.serving.job.now.engines (lens_of c.serving.index.now) (Takes state c.counting c.serving) (state desk.spill).bytes (state desk.spill).size (state desk.spill).beat c.beat.now desk.replicas desk.room.begun chunks partition
+    pub room : IsRoom c.serving.job.now desk.room
+    pub done : desk.outcome ≡ Done
+
+  -- why the work may be stopped: damage is found only where not all chunks stand on devices that tell their bytes
+  abbrev pub MayStopBy : GatherContext P D G M → Outcome → Type 0
+  MayStopBy c Done = ⊥
+  MayStopBy c DiskFault = Unit {0}
+  MayStopBy c (Damaged part engine place) = (part ≡ part_of c.counting) × ((items : ℕ → ℕ → List Update) → Takes state c.counting c.serving items → ⊥)
+  MayStopBy c Memory = ⊥
+
+  pub record DeskStops (c : GatherContext P D G M) (desk : GatherDesk D M) (chunks : List (ℕ × ℕ)) : Type 0 where
+    pub why : MayStopBy c desk.outcome
+    pub in_time : (state desk.spill).beat ≤ c.beat.now

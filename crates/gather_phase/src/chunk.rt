@@ -1,0 +1,199 @@
+//! What a worker does with a chunk.
+ghost use Rattle.std.specs.Prelude.{◌≡◌, ℕ, ◌+◌, ◌*◌, ◌<◌, ◌≤◌, true, false, Some, length, take};
+ghost use Rattle.ports.specs.Faults.{Rose};
+ghost use Rattle.graph_model.specs.Programs.{plus as capped_sum};
+ghost use Rattle.chunk_object.specs.Epochs.{cursor_of};
+ghost use Rattle.chunk_object.specs.History.{opened_len};
+ghost use Rattle.chunk_cursor.specs.View.{knows, MayClaim};
+ghost use Rattle.chunk_model.specs.ChunkBytes.{chunk_width};
+ghost use Rattle.partitioner.specs.Splits.{IsSplit};
+ghost use Rattle.chunk_file.specs.Places.{places_of};
+ghost use Rattle.storage_engine.specs.Serving.{told_at, place_at, AddsClaim, HasServed, HasDevices, ReadsAt, RefusesAt};
+ghost use Rattle.phase_model.specs.Sums.{counts_of};
+ghost use Rattle.replica_merge.specs.Accumulators.{split_of, begun_of, sums_of};
+ghost use Rattle.gather_phase.specs.Summing.{AreWithin, ComeFrom, HasSummed};
+ghost use Rattle.gather_phase.specs.Memory.{SameSpills, HasCome, begun_or};
+ghost use Rattle.gather_phase.specs.Phases.{IsServing};
+ghost use Rattle.gather_phase.specs.Acting.{MayServeAt, HasServedAt};
+
+use crate::desk::{GatherContext, GatherDesk};
+use crate::sums::{count_edges, fold_updates};
+use chunk_cursor::CursorSeat;
+use chunk_file::Record;
+use engine_gate::Gate;
+use gather_laws::VertexProgram;
+use graph_model::{Edge, Update};
+use ports::Disk;
+use replica_merge::Replicas;
+use storage_engine::{Outcome, Part, Served, Serving, serve};
+use worker_duty::Step;
+
+/// Claims a chunk of updates once, and takes its updates into the sums of its partition.
+pub(crate) fn serve_updates<P: VertexProgram, D: Disk, G: Gate>(
+    context: &GatherContext<P, D, G>,
+    desk: &mut GatherDesk<D>,
+    engine: u32,
+    partition: u32,
+) -> Step
+    requires serving { IsServing context.now.serving }
+    requires kind { context.now.counting ≡ false }
+    requires may { MayServeAt P.rules D.state D.M.faults context.now desk.old engine partition }
+    ensures { HasServedAt P.rules D.state D.M.faults context.now desk.old desk.new engine partition result }
+{
+    let (first, _) = context.serving.split.range(partition);
+    let room = &mut desk.room;
+    let served = read_records(
+        &context.serving,
+        &mut desk.meter,
+        &mut desk.seat,
+        engine,
+        partition,
+        &mut room.bytes,
+        &mut room.updates,
+    );
+    match served {
+        Served::Chunk(count) => {
+            come_to(&mut desk.replicas, &mut desk.room.begun, partition);
+            add_updates(
+                context.program,
+                &mut desk.replicas,
+                first,
+                &desk.room.updates,
+                count,
+            );
+            Step::Took
+        }
+        Served::Exhausted => Step::Exhausted,
+        Served::DiskFault => {
+            desk.outcome = Outcome::DiskFault;
+            Step::Stopped
+        }
+        Served::Damaged(place) => {
+            desk.outcome = Outcome::Damaged {
+                part: Part::Lane,
+                engine,
+                place,
+            };
+            Step::Stopped
+        }
+    }
+}
+
+/// Claims a chunk of edges once, and counts its edges in the accumulators of its partition.
+pub(crate) fn serve_edges<P: VertexProgram, D: Disk, G: Gate>(
+    context: &GatherContext<P, D, G>,
+    desk: &mut GatherDesk<D>,
+    engine: u32,
+    partition: u32,
+) -> Step
+    requires serving { IsServing context.now.serving }
+    requires kind { context.now.counting ≡ true }
+    requires may { MayServeAt P.rules D.state D.M.faults context.now desk.old engine partition }
+    ensures { HasServedAt P.rules D.state D.M.faults context.now desk.old desk.new engine partition result }
+{
+    let (first, _) = context.serving.split.range(partition);
+    let room = &mut desk.room;
+    let served = read_records(
+        &context.serving,
+        &mut desk.meter,
+        &mut desk.seat,
+        engine,
+        partition,
+        &mut room.bytes,
+        &mut room.edges,
+    );
+    match served {
+        Served::Chunk(count) => {
+            come_to(&mut desk.replicas, &mut desk.room.begun, partition);
+            add_edges(&mut desk.replicas, first, &desk.room.edges, count);
+            Step::Took
+        }
+        Served::Exhausted => Step::Exhausted,
+        Served::DiskFault => {
+            desk.outcome = Outcome::DiskFault;
+            Step::Stopped
+        }
+        Served::Damaged(place) => {
+            desk.outcome = Outcome::Damaged {
+                part: Part::Graph,
+                engine,
+                place,
+            };
+            Step::Stopped
+        }
+    }
+}
+
+/// Claims a chunk once, and reads its records to the front of `into`.
+fn read_records<R: Record, D: Disk>(
+    serving: &Serving<D>,
+    meter: &mut D::M,
+    seat: &mut CursorSeat,
+    engine: u32,
+    partition: u32,
+    bytes: &mut Vec<u8>,
+    into: &mut Vec<R>,
+) -> Served
+    requires split { IsSplit serving.now.split.now }
+    requires engine { engine < 8 }
+    requires partition { partition < serving.now.split.now.parts }
+    requires devices { HasDevices serving.now.shelf engine (places_of serving.now.index.now engine partition) }
+    requires table { seat.old.table ≡ serving.now.table.now }
+    requires once { MayClaim seat.old.view (cursor_of engine partition) }
+    requires len { opened_len (cursor_of engine partition) (knows seat.old.view) ≡ length (places_of serving.now.index.now engine partition) }
+    requires few { length into.old.items ≤ 65536 }
+    requires room { chunk_width (R.layout serving.now.job.now.format).width (length into.old.items) ≤ length bytes.old.items }
+    ensures rooms { (length bytes.new.items ≡ length bytes.old.items) × (length into.new.items ≡ length into.old.items) }
+    ensures table { seat.new.table ≡ seat.old.table }
+    ensures later { D.M.faults meter.old ≤ D.M.faults meter.new }
+    ensures served { HasServed
+        (AddsClaim seat.old.view seat.new.view (cursor_of engine partition))
+        (λ t count. ReadsAt (R.layout serving.now.job.now.format) serving.now.split.now partition (place_at serving.now.index.now engine partition t)
+        (told_at D.state serving.now.shelf engine (place_at serving.now.index.now engine partition t).lane) count into.new.items)
+        (Rose (D.M.faults meter.old) (D.M.faults meter.new))
+        (λ t at. RefusesAt (R.layout serving.now.job.now.format) serving.now.split.now partition (place_at serving.now.index.now engine partition t)
+        (told_at D.state serving.now.shelf engine (place_at serving.now.index.now engine partition t).lane) (length into.old.items) at)
+        result }
+{
+    serve(serving, meter, seat, engine, partition, bytes, into)
+}
+
+/// Begins the partition, where none is begun.
+fn come_to(replicas: &mut Replicas, begun: &mut Option<u32>, partition: u32)
+    requires { partition < (split_of replicas.old).parts }
+    ensures begun { begun.new ≡ Some (begun_or begun.old partition) }
+    ensures come { HasCome replicas.old replicas.new begun.old partition }
+{
+    if begun.is_none() {
+        replicas.begin(partition);
+        *begun = Some(partition);
+    }
+}
+
+/// Takes the first updates of a buffer into the accumulators in memory. The first of these is that of the vertex `first`.
+fn add_updates<P: VertexProgram>(
+    program: &P,
+    replicas: &mut Replicas,
+    first: u32,
+    updates: &Vec<Update>,
+    count: u32,
+)
+    requires count { count ≤ length updates.now.items }
+    requires within { AreWithin first (length (sums_of replicas.old)) (take count updates.now.items) }
+    ensures same { SameSpills replicas.old replicas.new }
+    ensures begun { begun_of replicas.new ≡ begun_of replicas.old }
+    ensures summed { HasSummed (P.rules program.now).fold first (take count updates.now.items) (sums_of replicas.old) (sums_of replicas.new) }
+{
+    fold_updates(program, replicas.acc(), first, &updates[..count as usize]);
+}
+
+/// Counts the first edges of a buffer in the accumulators in memory. The first of these is that of the vertex `first`.
+fn add_edges(replicas: &mut Replicas, first: u32, edges: &Vec<Edge>, count: u32)
+    requires count { count ≤ length edges.now.items }
+    requires within { ComeFrom first (length (sums_of replicas.old)) (take count edges.now.items) }
+    ensures same { SameSpills replicas.old replicas.new }
+    ensures begun { begun_of replicas.new ≡ begun_of replicas.old }
+    ensures summed { HasSummed capped_sum first (counts_of (take count edges.now.items)) (sums_of replicas.old) (sums_of replicas.new) }
+{
+    count_edges(replicas.acc(), first, &edges[..count as usize]);
+}
