@@ -1,0 +1,5 @@
+pub mod ByteLemmas
+pub mod SlotSteps
+pub mod ValueSteps
+pub mod Partwise
+pub mod WorkedExamples
