@@ -1,0 +1,7 @@
+use Rattle.restart.specs.Dropping.{Empties, IsEmpty}
+use Rattle.restart.proofs.Devices.{DoneBelow}
+use Rattle.restart.proofs.dropping.empty_all.Given as goal
+
+abbrev pub invariant-loop-disk : goal.invariant-loop-disk
+invariant-loop-disk g l =
+    DoneBelow (λ old new. Empties l.beat (g.D.Disk.state old) (g.D.Disk.state new)) (λ disk. IsEmpty (g.D.Disk.state disk)) l.disk-index l.fn.disks l.disks

@@ -1,0 +1,36 @@
+use Rattle.std.proofs.Common.{◌≡◌, ◌<◌, length, get_or, rules, arith}
+use Rattle.std.proofs.lemmas.Grind.{common_steps}
+use Rattle.std.specs.List.{All}
+use Rattle.restart.specs.Devices.{Each, OneRose}
+use Rattle.restart.specs.Dropping.{Empties, IsEmpty}
+use Rattle.restart.proofs.Devices.{next_steps, one_done, given_back, row_rose_here, on_err_so}
+use Rattle.restart.proofs.dropping.empty_rows.Goals as goal
+
+pub loop-row-preserved : goal.loop-row-preserved
+loop-row-preserved g c =
+    let row = get_or c.loop-row.rows c.loop-row.row-index c.row-item.result in
+    let lent : c.deref_mut.result.now ≡ row.items = c.deref_mut.ensures.value in
+    let within : c.loop-row.row-index < length c.loop-row.rows = first_of (omega arith, search rules, grind (arith, common_steps)) in
+    let many = c.empty_all.ensures.empties.many in
+    one_done _ _ c.loop-row.row-index c.args.rows.now c.loop-row.rows c.row-item.result _ within c.loop-row.invariant
+    (given_back (Each g.D.Disk.state (Empties c.args.beat.now)) row c.deref_mut.result.now c.empty_all.new.disks lent many c.empty_all.ensures.empties)
+    (given_back (λ olds news. All (λ disk. IsEmpty (g.D.Disk.state disk)) news) row c.deref_mut.result.now c.empty_all.new.disks lent many c.in_ok-empty_all.ensures.empty)
+
+pub returns-in_err-empty_all-clause-empties : goal.returns-in_err-empty_all-clause-empties
+returns-in_err-empty_all-clause-empties g c =
+    let row = get_or c.loop-row.rows c.loop-row.row-index c.row-item.result in
+    let lent : c.deref_mut.result.now ≡ row.items = c.deref_mut.ensures.value in
+    let within : c.loop-row.row-index < length c.loop-row.rows = first_of (omega arith, search rules, grind (arith, common_steps)) in
+    record {
+      many = first_of (search rules, grind (arith, common_steps, c.loop-row.invariant.many));
+      each = next_steps _ _ c.loop-row.row-index c.args.rows.now c.loop-row.rows c.row-item.result _ within c.loop-row.invariant
+          (given_back (Each g.D.Disk.state (Empties c.args.beat.now)) row c.deref_mut.result.now c.empty_all.new.disks lent c.empty_all.ensures.empties.many c.empty_all.ensures.empties);
+    }
+
+pub returns-in_err-empty_all-clause-cause : goal.returns-in_err-empty_all-clause-cause
+returns-in_err-empty_all-clause-cause g c =
+    let row = get_or c.loop-row.rows c.loop-row.row-index c.row-item.result in
+    let lent : c.deref_mut.result.now ≡ row.items = c.deref_mut.ensures.value in
+    let within : c.loop-row.row-index < length c.loop-row.rows = first_of (omega arith, search rules, grind (arith, common_steps)) in
+    on_err_so c.from_residual.result (row_rose_here g.D.Disk.state _ _ c.loop-row.row-index c.args.rows.now c.loop-row.rows c.row-item.result _ within c.loop-row.invariant
+    (given_back (OneRose g.D.Disk.state) row c.deref_mut.result.now c.empty_all.new.disks lent c.empty_all.ensures.empties.many c.in_err-empty_all.ensures.cause))

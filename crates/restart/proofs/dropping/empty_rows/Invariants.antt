@@ -1,0 +1,9 @@
+use Rattle.std.specs.List.{All}
+use Rattle.restart.specs.Devices.{Each}
+use Rattle.restart.specs.Dropping.{Empties, IsEmpty}
+use Rattle.restart.proofs.Devices.{DoneBelow}
+use Rattle.restart.proofs.dropping.empty_rows.Given as goal
+
+abbrev pub invariant-loop-row : goal.invariant-loop-row
+invariant-loop-row g l =
+    DoneBelow (λ old new. Each g.D.Disk.state (Empties l.beat) old.items new.items) (λ row. All (λ disk. IsEmpty (g.D.Disk.state disk)) row.items) l.row-index l.fn.rows l.rows
