@@ -8,3 +8,4 @@ pub mod WorkedExamples
 pub mod Events
 pub mod Duties
 pub mod Machines
+pub mod Stories

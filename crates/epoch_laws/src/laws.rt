@@ -1,5 +1,5 @@
 //! The laws. Each stands on the contract of a function that does nothing.
-ghost use Rattle.std.specs.Prelude.{◌≡◌, ℕ, ◌-◌, ◌<◌, ◌≤◌, List, Option, true, map};
+ghost use Rattle.std.specs.Prelude.{◌≡◌, ℕ, ◌-◌, ◌<◌, ◌≤◌, List, ◌++◌, Option, true, map};
 ghost use Rattle.graph_model.specs.declared.edge.Edge.{Edge};
 ghost use Rattle.graph_model.specs.declared.value.Value.{Value};
 ghost use Rattle.graph_model.specs.declared.job.Job.{Job};
@@ -10,7 +10,8 @@ ghost use Rattle.partitioner.specs.declared.split.Split.{Split};
 ghost use Rattle.chunk_object.specs.declared.call.Entry.{Entry};
 ghost use Rattle.chunk_object.specs.Object.{ChunkObject};
 ghost use Rattle.chunk_object.specs.Duty.{MeetsDuty};
-ghost use Rattle.chunk_object.specs.Epochs.{Terms, Epoch, TakesEachOnce, list_of};
+ghost use Rattle.chunk_object.specs.Epochs.{Terms, Epoch, TakesEachOnce, epoch_entries, list_of};
+ghost use Rattle.chunk_object.specs.History.{StandsWhole};
 ghost use Rattle.phase_model.specs.Shelves.{Shelf};
 ghost use Rattle.phase_core.specs.Machine.{fresh};
 ghost use Rattle.phase_core.specs.Runs.{ran, replies, reply_of};
@@ -51,6 +52,14 @@ pub fn edges_are_counted<P: VertexProgram>(program: &P)
         (vertex : ℕ) → merged_over (P.rules program.now) (counted (edge_shelf job edges) vertex) count ≡ out_degree edges vertex }
     ensures start { (vertices : ℕ) (edges : List Edge) (numbers : ℕ → ℕ) → ((P.rules program.now).counts ≡ true → (vertex : ℕ) → vertex < vertices → numbers vertex ≡ out_degree edges vertex) →
         values (P.rules program.now) vertices edges 0 ≡ of_vertices vertices (λ vertex. (P.rules program.now).start vertex (numbers vertex)) }
+{}
+
+/// In a story that stands whole and ends with an epoch in which each worker's list meets its duty, the workers' calls of
+/// the epoch stand in one legal history, from an object whose cursors were opened and whose partitions were greeted.
+pub fn epoch_has_history()
+    ensures { (story : List Entry) → StandsWhole story → (terms : Terms) → 1 ≤ terms.engines → terms.engines ≤ 8 → 1 ≤ terms.partitions → terms.partitions ≤ 64 →
+        (past : List Entry) (before : ℕ) (epoch : Epoch) → story ≡ past ++ epoch_entries terms before epoch → MeetsDuty terms epoch →
+        (o : ChunkObject) × ((history : List Entry) × EpochHistory terms epoch o history) }
 {}
 
 /// In an epoch in which each worker's list meets its duty, the workers' calls in one legal history are events that the

@@ -8,4 +8,4 @@
 
 mod laws;
 
-pub use laws::{calls_are_events, edges_are_counted, round_is_gathered};
+pub use laws::{calls_are_events, edges_are_counted, epoch_has_history, round_is_gathered};
