@@ -1,0 +1,24 @@
+//! The making of a store: from the text that is left in a source to the graph devices, values devices and the index of a
+//! job.
+//!
+//! To the room above it promises that a store which `prepare` makes is exactly that of the job and the text, that a stop
+//! while it is made leaves a graph device that is not open, or whole ones, that each refusal has its cause, and that every
+//! fault has raised its count. It knows the ports, the reader of edge texts, files of chunks, the places of chunks and the
+//! definitions of stores, and touches nothing but the source and the devices that it is handed.
+#![tactic(auto)]
+
+mod begin;
+mod device_steps;
+mod each_device;
+mod fault;
+mod head;
+mod maker;
+mod preparing;
+#[cfg(test)]
+mod tests;
+mod text;
+mod waiting;
+mod writing;
+
+pub use fault::PrepareFault;
+pub use preparing::prepare;
