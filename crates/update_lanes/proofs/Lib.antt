@@ -1,0 +1,6 @@
+pub mod Written
+pub mod Sent
+pub mod Sends
+pub mod Flushing
+pub mod GoingOn
+pub mod Emptying
