@@ -1,0 +1,5 @@
+pub mod FieldTests
+pub mod GoodHeads
+pub mod HeadChecks
+pub mod SlotReads
+pub mod Indexed

@@ -1,0 +1,7 @@
+use Rattle.std.proofs.Common.{◌≡◌, drop}
+use Rattle.store_model.specs.declared.field.TheConstants.{FIELDS}
+use Rattle.store_model.specs.Damage.{first_bad, is_same}
+use Rattle.store_checks.proofs.fields.other_field.Given as goal
+
+abbrev pub invariant-loop-field : goal.invariant-loop-field
+invariant-loop-field l = first_bad (is_same l.first l.head) (drop l.field-index FIELDS) ≡ first_bad (is_same l.first l.head) FIELDS

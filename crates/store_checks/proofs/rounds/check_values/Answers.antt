@@ -1,0 +1,40 @@
+use Rattle.std.proofs.Common.{◌≡◌, ◌<◌, ◌≤◌, ℕ, List, length, Some, None, get_or, sym, subst, arith}
+use Rattle.ports.specs.Faults.{Rose}
+use Rattle.store_model.specs.Slots.{device_size}
+use Rattle.store_model.specs.Kept.{device}
+use Rattle.store_model.specs.Damage.{Fault, first_over, device_fault}
+use Rattle.storage_engine.specs.Reading.{own_in}
+use Rattle.store_checks.specs.Causes.{Tell}
+use Rattle.store_checks.proofs.HeadChecks.{over_more, over_finds, cause_by, tell_at}
+use Rattle.store_checks.proofs.SlotReads.{below_and_here}
+use Rattle.store_checks.proofs.rounds.check_values.Goals as goal
+
+pub loop-e-preserved : goal.loop-e-preserved
+loop-e-preserved g c =
+    let x = c.index-values-e.result in
+    record {
+      exact = below_and_here (λ k y. (g.D.Disk.state y).size ≡ device_size (own_in c.args.split.now k)) c.args.values.now c.loop-e.e x c.index-values-e.is c.loop-e-test.true c.loop-e.invariant.exact c.in_default.ensures.exact;
+      sound = λ told tell.
+          over_more (λ e. device_fault (own_in c.args.split.now e) e (device told e)) c.loop-e.e (c.loop-e.invariant.sound told tell)
+          (c.in_default.ensures.sound (device told c.loop-e.e) (tell_at g.D.Disk.state c.args.values.now told c.loop-e.e x tell c.loop-e-test.true c.index-values-e.is));
+      later = omega (arith, c.loop-e.invariant.later, c.check_device.ensures.later);
+    }
+
+pub returns-in-Err-clause-cause : goal.returns-in-Err-clause-cause
+returns-in-Err-clause-cause g c =
+    let x = c.index-values-e.result in
+    cause_by (Rose (g.D.M.Meter.faults c.loop-e.meter) (g.D.M.Meter.faults c.check_device.new.meter)) (Rose (g.D.M.Meter.faults c.args.meter.now) (g.D.M.Meter.faults c.check_device.new.meter))
+    (λ fault. (told : List ℕ) → (g.D.Disk.state x).bytes ≡ Some told → device_fault (own_in c.args.split.now c.loop-e.e) c.loop-e.e told ≡ Some fault)
+    (λ fault. (told : List (List ℕ)) → Tell g.D.Disk.state c.args.values.now told → first_over (λ e. device_fault (own_in c.args.split.now e) e (device told e)) (length told) ≡ Some fault)
+    c.in-Err.fault
+    (λ rose. omega (arith, rose, c.loop-e.invariant.later))
+    (λ fault found told tell.
+    over_finds (λ e. device_fault (own_in c.args.split.now e) e (device told e)) c.loop-e.e (length told) fault (c.loop-e.invariant.sound told tell)
+    (found (device told c.loop-e.e) (tell_at g.D.Disk.state c.args.values.now told c.loop-e.e x tell c.loop-e-test.true c.index-values-e.is))
+    (subst (λ n. c.loop-e.e < n) (sym tell.many) c.loop-e-test.true))
+    c.in-Err.ensures.cause
+
+pub returns-clause-sound : goal.returns-clause-sound
+returns-clause-sound g c = λ told tell.
+    let all : c.loop-e.e ≡ length told = omega (arith, tell.many) in
+    subst (λ n. first_over (λ e. device_fault (own_in c.args.split.now e) e (device told e)) n ≡ None) all (c.loop-e.invariant.sound told tell)

@@ -1,0 +1,4 @@
+pub mod Jobs
+pub mod Causes
+pub mod Rounds
+pub mod Indexing
