@@ -26,7 +26,7 @@ use Rattle.replica_merge.specs.declared.replicas.Replicas.{Replicas}
 use Rattle.replica_merge.specs.Merging.{MergesAll, sums_for}
 use Rattle.store_model.specs.Slots.{slot_start, slot_size, slot_values, set_start, device_size, value_bytes, values_bytes, IsClosed}
 use Rattle.store_model.proofs.SlotLemmas.{set_within}
-use Rattle.storage_engine.specs.Reading.{own_in, master_in, len_in, before_in}
+use Rattle.store_reader.specs.Reading.{own_in, master_in, len_in, before_in}
 use Rattle.checkpoint.specs.Applied.{sums_in, values_in, applied, changes, changed_by}
 use Rattle.checkpoint.specs.SlotStates.{HasExactSize, SameOther, WhileClosing, WhileWriting}
 use Rattle.checkpoint.specs.Storing.{StandBefore, EngineStandsBefore, EngineBefore, StoresPartition, StoresFront}

@@ -12,8 +12,8 @@ use Rattle.ports.proofs.Stops.{started, by_one, joined, weaker, leaves_now}
 use Rattle.ports.proofs.Told.{settled_from, present_at, sized_at}
 use Rattle.store_model.specs.Slots.{slot_size, slot_start, set_start, device_size, slot_bytes, slot_numbers, slot_values, number_bytes, values_bytes, IsOpen, IsClosed, HoldsRound}
 use Rattle.store_model.proofs.SlotLemmas.{slot_within, slots_lie}
-use Rattle.storage_engine.specs.declared.store.SlotHead.{SlotHead}
-use Rattle.storage_engine.specs.Reading.{TellsHead}
+use Rattle.store_reader.specs.declared.store.SlotHead.{SlotHead}
+use Rattle.store_reader.specs.Reading.{TellsHead}
 use Rattle.checkpoint.specs.Storing.{WhileStoring, KeepsOther}
 use Rattle.checkpoint.specs.SlotStates.{HasExactSize, SameOther, WhileClosing, WhileWriting, WhileOpening}
 

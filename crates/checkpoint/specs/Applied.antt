@@ -8,7 +8,7 @@ use Rattle.graph_model.specs.Rounds.{merged}
 use Rattle.partitioner.specs.declared.split.Split.{Split}
 use Rattle.replica_merge.specs.declared.replicas.Replicas.{Replicas}
 use Rattle.replica_merge.specs.Merging.{sums_for}
-use Rattle.storage_engine.specs.Reading.{len_in}
+use Rattle.store_reader.specs.Reading.{len_in}
 
 -- for each vertex of a partition, in order, the merge of the accumulators of all workers, each once
 abbrev pub sums_in : Rules → Split → List Replicas → (devices : List (List ℕ)) → (partition : ℕ) → List ℕ

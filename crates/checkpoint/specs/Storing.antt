@@ -7,9 +7,9 @@ use Rattle.ports.specs.Bytes.{bytes_at, after_write}
 use Rattle.ports.specs.Disk.{DiskState}
 use Rattle.ports.specs.Faults.{Rose}
 use Rattle.store_model.specs.Slots.{slot_bytes, slot_start, slot_values, set_start, set_bytes, values_bytes, IsClosed, HoldsRound}
-use Rattle.storage_engine.specs.Reading.{own_in, master_in, len_in, before_in}
-use Rattle.storage_engine.specs.declared.store.Outcome.{Outcome}
-use Rattle.storage_engine.specs.declared.store.Outcome.TheVariants.{Done, DiskFault}
+use Rattle.store_reader.specs.Reading.{own_in, master_in, len_in, before_in}
+use Rattle.store_reader.specs.declared.store.Outcome.{Outcome}
+use Rattle.store_reader.specs.declared.store.Outcome.TheVariants.{Done, DiskFault}
 use Rattle.checkpoint.specs.Applied.{applied, values_in, changed_by, AreValues}
 use Rattle.checkpoint.specs.SlotStates.{SameOther}
 

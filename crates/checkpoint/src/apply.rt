@@ -8,7 +8,7 @@ ghost use Rattle.ports.specs.Faults.{HasCause, HasCauseOfTwo};
 ghost use Rattle.ports.specs.Stops.{Leaves};
 ghost use Rattle.ports.specs.Told.{AsTold};
 ghost use Rattle.replica_merge.specs.Accumulators.{split_of, LiesWithin};
-ghost use Rattle.storage_engine.specs.Reading.{own_in, master_in, len_in, before_in};
+ghost use Rattle.store_reader.specs.Reading.{own_in, master_in, len_in, before_in};
 ghost use Rattle.store_model.specs.Slots.{device_size, slot_of, slot_start, slot_values, set_bytes, values_bytes, IsClosed, HoldsRound};
 ghost use Rattle.checkpoint.specs.declared.room.ApplyRoom.{ApplyRoom};
 ghost use Rattle.replica_merge.specs.declared.replicas.Replicas.{Replicas};
@@ -26,7 +26,7 @@ use graph_model::Value;
 use partitioner::Split;
 use ports::{Beat, Disk, Failed};
 use replica_merge::{Replicas, merge_replicas};
-use storage_engine::{Outcome, read_set};
+use store_reader::{Outcome, read_set};
 
 /// What is lent to all engines in apply.
 #[derive(Drop)]

@@ -6,7 +6,7 @@ ghost use Rattle.ports.specs.Disk.{InEveryImage, IsSettled};
 ghost use Rattle.ports.specs.Faults.{HasCause, HasCauseOfTwo};
 ghost use Rattle.ports.specs.Stops.{Leaves};
 ghost use Rattle.ports.specs.Told.{AsTold};
-ghost use Rattle.storage_engine.specs.Reading.{own_in, master_in, len_in, before_in};
+ghost use Rattle.store_reader.specs.Reading.{own_in, master_in, len_in, before_in};
 ghost use Rattle.store_model.specs.Slots;
 ghost use Rattle.store_model.specs.Slots.{device_size, number_bytes, values_bytes, IsOpen, IsClosed};
 ghost use Rattle.checkpoint.specs.Synced.{WritesSynced};
@@ -16,7 +16,7 @@ use crate::bytes::{put_slot_numbers, put_values};
 use graph_model::Value;
 use partitioner::Split;
 use ports::{Beat, Disk, Failed, write_synced};
-use storage_engine::slot_head;
+use store_reader::slot_head;
 
 /// The gate of what is open, and one of what is closed.
 const OPEN: u8 = 0xA5;

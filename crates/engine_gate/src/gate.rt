@@ -1,9 +1,4 @@
-/// What a worker passes once in each phase, before it works.
-pub trait Gate {
-    /// May hold the worker for a bounded number of looks. Workers are numbered from 0; `turn` is the number of the
-    /// phase. It changes nothing but what the gate itself holds or shares.
-    fn pass(&self, worker: u32, turn: u64);
-}
+use ports::Gate;
 
 /// A gate that holds nobody.
 #[derive(Clone, Copy, Debug)]

@@ -9,7 +9,7 @@
 mod gate;
 mod meet;
 
-pub use gate::{Gate, OpenGate};
+pub use gate::OpenGate;
 pub use meet::MeetGate;
 
 #[cfg(test)]

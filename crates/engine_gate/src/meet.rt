@@ -1,4 +1,4 @@
-use crate::Gate;
+use ports::Gate;
 use std::sync::atomic::{AtomicBool, AtomicU64, Ordering};
 use std::{hint, thread};
 

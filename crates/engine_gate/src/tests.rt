@@ -1,4 +1,5 @@
 use super::*;
+use ports::Gate;
 use std::test::*;
 use std::thread::join;
 

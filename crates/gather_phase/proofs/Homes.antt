@@ -21,14 +21,14 @@ use Rattle.chunk_object.specs.Epochs.{cursor_of}
 use Rattle.chunk_model.specs.Layout.{edge_layout, update_layout}
 use Rattle.chunk_model.specs.ChunkBytes.{Belongs}
 use Rattle.chunk_file.specs.Places.{places_of, no_places}
-use Rattle.storage_engine.specs.declared.serving.Serving.{Serving}
+use Rattle.store_reader.specs.declared.serving.Serving.{Serving}
 use Rattle.phase_model.specs.Taken.{records_of}
 use Rattle.phase_model.specs.Sums.{values_to, sum_at, sums_over, count_of, counts_of}
 use Rattle.phase_model.proofs.Sent.{values_to-append}
 use Rattle.phase_model.proofs.Counted.{counted}
 use Rattle.replica_merge.specs.Accumulators.{len_of}
 use Rattle.gather_phase.specs.Gathering.{Adding, partition_sums, of_partition, IsOf}
-use Rattle.gather_phase.specs.Phases.{lens_of, HasRecords}
+use Rattle.store_reader.specs.Indexed.{lens_of, HasRecords}
 
 values_none : (v : ℕ) (us : List Update) → All (λ (u : Update). u.dst ≢ v) us → values_to v us ≡ []
 values_none v [] none = refl

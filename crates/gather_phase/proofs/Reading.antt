@@ -18,11 +18,12 @@ use Rattle.chunk_model.proofs.LayoutLaws.{edge_layout_is, update_layout_is}
 use Rattle.chunk_model.proofs.OnDevice.{one_chunk}
 use Rattle.chunk_file.specs.Places.{places_of}
 use Rattle.chunk_file.specs.Chunks.{AreChunkIn, IsChunkIn, NoChunkIn}
-use Rattle.storage_engine.specs.declared.serving.Serving.{Serving}
-use Rattle.storage_engine.specs.Serving.{told_at, place_at, ReadsAt, RefusesAt}
+use Rattle.store_reader.specs.declared.serving.Serving.{Serving}
+use Rattle.store_reader.specs.Serving.{told_at, place_at, ReadsAt, RefusesAt}
 use Rattle.phase_model.specs.Sums.{counts_of}
 use Rattle.gather_phase.specs.Summing.{AreWithin, ComeFrom}
-use Rattle.gather_phase.specs.Phases.{HasRecords, Takes}
+use Rattle.gather_phase.specs.Phases.{Takes}
+use Rattle.store_reader.specs.Indexed.{HasRecords}
 
 -- A vertex of a partition is in its range.
 in_partition : (split : Split) (p v : ℕ) → IsSplit split → v < split.vertices → v / split.span ≡ p → (first_vertex split.vertices split.parts p ≤ v) × (v < first_vertex split.vertices split.parts p + part_len split.vertices split.parts p)

@@ -9,7 +9,8 @@ use Rattle.worker_duty.specs.declared.acts.Step.{Step}
 use Rattle.worker_duty.specs.Acting.{MayServe, HasServed, MayPropose, HasProposed, MayLeave, HasLeft}
 use Rattle.gather_phase.specs.declared.desk.GatherContext.{GatherContext}
 use Rattle.gather_phase.specs.declared.desk.GatherDesk.{GatherDesk}
-use Rattle.gather_phase.specs.Phases.{lens_of, GoesOn, DeskRests, DeskMeets, DeskStops}
+use Rattle.gather_phase.specs.Phases.{GoesOn, DeskRests, DeskMeets, DeskStops}
+use Rattle.store_reader.specs.Indexed.{lens_of}
 
 abbrev pub hold_of : {D M : Type 0} → GatherDesk D M → Hold
 hold_of desk = desk.seat

@@ -12,12 +12,12 @@ use Rattle.chunk_model.specs.Layout.{edge_layout, update_layout}
 use Rattle.phase_model.specs.Taken.{records_taken}
 use Rattle.phase_model.specs.Sums.{sum_at, sums_over}
 use Rattle.worker_duty.specs.Views.{calls_of, taken_by_seat}
-use Rattle.storage_engine.specs.declared.store.Outcome.TheVariants.{DiskFault}
+use Rattle.store_reader.specs.declared.store.Outcome.TheVariants.{DiskFault}
 use Rattle.replica_merge.specs.Accumulators.{len_of, accumulators_of, LiesWithin}
 use Rattle.gather_phase.specs.declared.desk.GatherContext.{GatherContext}
 use Rattle.gather_phase.specs.declared.desk.GatherDesk.{GatherDesk}
 use Rattle.gather_phase.specs.Gathering.{touched}
-use Rattle.gather_phase.specs.Phases.{HasRecords}
+use Rattle.store_reader.specs.Indexed.{HasRecords}
 
 -- the list of a partition's vertices under a function of vertices
 abbrev pub over_partition : Split → (ℕ → ℕ) → (partition : ℕ) → List ℕ

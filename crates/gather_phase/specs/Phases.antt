@@ -14,12 +14,12 @@ use Rattle.chunk_model.specs.Layout.{Layout, edge_layout, update_layout}
 use Rattle.chunk_file.specs.declared.index.Place.{Place}
 use Rattle.chunk_file.specs.Places.{places_of, no_places}
 use Rattle.chunk_file.specs.Chunks.{IsChunkIn}
-use Rattle.storage_engine.specs.declared.store.Outcome.{Outcome}
-use Rattle.storage_engine.specs.declared.store.Outcome.TheVariants.{Done, DiskFault, Damaged, Memory}
-use Rattle.storage_engine.specs.declared.store.Part.{Part}
-use Rattle.storage_engine.specs.declared.store.Part.TheVariants.{Graph, Lane}
-use Rattle.storage_engine.specs.declared.serving.Serving.{Serving}
-use Rattle.storage_engine.specs.Serving.{told_at, HasDevices, place_at}
+use Rattle.store_reader.specs.declared.store.Outcome.{Outcome}
+use Rattle.store_reader.specs.declared.store.Outcome.TheVariants.{Done, DiskFault, Damaged, Memory}
+use Rattle.store_reader.specs.declared.store.Part.{Part}
+use Rattle.store_reader.specs.declared.store.Part.TheVariants.{Graph, Lane}
+use Rattle.store_reader.specs.declared.serving.Serving.{Serving}
+use Rattle.store_reader.specs.Indexed.{lens_of, HasRecords}
 use Rattle.phase_model.specs.Sums.{counts_of}
 use Rattle.gather_phase.specs.declared.desk.GatherContext.{GatherContext}
 use Rattle.gather_phase.specs.declared.desk.GatherDesk.{GatherDesk}
@@ -27,35 +27,16 @@ use Rattle.gather_phase.specs.Gathering.{Adding, Rests, Meets}
 use Rattle.replica_merge.specs.Accumulators.{split_of}
 use Rattle.gather_phase.specs.Rooms.{IsRoom}
 
--- with how many chunks the cursors are opened that have these places
-abbrev pub lens_of : List (List Place) → ℕ → ℕ
-lens_of index cursor = length (slice_index_or index cursor no_places)
-
 -- the kind of devices that edges are on, and updates
 abbrev pub part_of : Bool → Part
 part_of true = Graph
 part_of false = Lane
 
 module _ {D M : Type 0} (state : D → DiskState) where
-  -- each chunk of the index stands on a device that tells its bytes, and has these records
-  abbrev pub HasRecords : {X : Type 0} → Layout X → Serving D M → (ℕ → ℕ → List X) → Type 0
-  HasRecords layout serving records =
-      (engine partition t : ℕ) → engine < serving.job.now.engines → partition < serving.split.now.parts → t < length (places_of serving.index.now engine partition)
-      → (bytes : List ℕ) × (told_at state serving.shelf engine (place_at serving.index.now engine partition t).lane ≡ Some bytes)
-      × IsChunkIn layout serving.split.now serving.job.now.chunk partition (place_at serving.index.now engine partition t).at bytes (records (cursor_of engine partition) t)
-
   -- what is taken from each chunk: its updates, or 1 for each of its edges at the source
   abbrev pub Takes : Bool → Serving D M → (ℕ → ℕ → List Update) → Type 0
   Takes true serving items = (edges : ℕ → ℕ → List Edge) × HasRecords (edge_layout serving.job.now.format) serving edges × ((cursor t : ℕ) → items cursor t ≡ counts_of (edges cursor t))
   Takes false serving items = HasRecords update_layout serving items
-
--- The chunks are those of a job, in partitions of its split; they are few, and the shelf has their devices.
-pub record IsServing {D M : Type 0} (serving : Serving D M) : Type 0 where
-  pub job : IsWellFormedJob serving.job.now
-  pub split : IsSplit serving.split.now
-  pub of_job : IsSplitOf serving.job.now serving.split.now
-  pub few : (cursor : ℕ) → lens_of serving.index.now cursor ≤ most_chunks
-  pub devices : (engine partition : ℕ) → engine < serving.job.now.engines → partition < serving.split.now.parts → HasDevices serving.shelf engine (places_of serving.index.now engine partition)
 
 module _ {D M : Type 0} (state : D → DiskState) (faults : M → ℕ) where
   -- how a desk goes on: its worker, split and rooms stay, counts of faults never fall, and a disk fault is answered only where one rose

@@ -4,17 +4,16 @@ ghost use Rattle.ports.specs.Told.{AsTold};
 ghost use Rattle.replica_merge.specs.Accumulators.{split_of, unit_of, begun_of, sums_of, accumulators_of, LiesWithin, KeepsOthers};
 ghost use Rattle.replica_merge.specs.Appending.{HasAppended};
 ghost use Rattle.replica_merge.specs.Numbers.{bytes_of_numbers};
-ghost use Rattle.gather_phase.specs.Phases.{IsServing};
+ghost use Rattle.store_reader.specs.Indexed.{IsServing};
 ghost use Rattle.gather_phase.specs.Acting.{MayServeAt, HasServedAt, MayProposeAt, HasProposedAt, MayLeaveAt, HasLeftAt};
 
 use crate::chunk::{serve_edges, serve_updates};
 use crate::desk::{GatherContext, GatherDesk};
-use engine_gate::Gate;
 use gather_laws::VertexProgram;
-use ports::{Beat, Disk, Failed};
+use ports::{Beat, Disk, Failed, Gate};
 use replica_merge::Replicas;
 use steal_policy::{Proposal, propose};
-use storage_engine::Outcome;
+use store_reader::Outcome;
 use worker_duty::{Step, ask_about};
 
 /// Claims a chunk once, and takes it into the accumulators of its partition.

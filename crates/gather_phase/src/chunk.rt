@@ -8,24 +8,23 @@ ghost use Rattle.chunk_cursor.specs.View.{knows, MayClaim};
 ghost use Rattle.chunk_model.specs.ChunkBytes.{chunk_width};
 ghost use Rattle.partitioner.specs.Splits.{IsSplit};
 ghost use Rattle.chunk_file.specs.Places.{places_of};
-ghost use Rattle.storage_engine.specs.Serving.{told_at, place_at, AddsClaim, HasServed, HasDevices, ReadsAt, RefusesAt};
+ghost use Rattle.store_reader.specs.Serving.{told_at, place_at, AddsClaim, HasServed, HasDevices, ReadsAt, RefusesAt};
 ghost use Rattle.phase_model.specs.Sums.{counts_of};
 ghost use Rattle.replica_merge.specs.Accumulators.{split_of, begun_of, sums_of};
 ghost use Rattle.gather_phase.specs.Summing.{AreWithin, ComeFrom, HasSummed};
 ghost use Rattle.gather_phase.specs.Memory.{SameSpills, HasCome, begun_or};
-ghost use Rattle.gather_phase.specs.Phases.{IsServing};
+ghost use Rattle.store_reader.specs.Indexed.{IsServing};
 ghost use Rattle.gather_phase.specs.Acting.{MayServeAt, HasServedAt};
 
 use crate::desk::{GatherContext, GatherDesk};
 use crate::sums::{count_edges, fold_updates};
 use chunk_cursor::CursorSeat;
 use chunk_file::Record;
-use engine_gate::Gate;
 use gather_laws::VertexProgram;
 use graph_model::{Edge, Update};
-use ports::Disk;
+use ports::{Disk, Gate};
 use replica_merge::Replicas;
-use storage_engine::{Outcome, Part, Served, Serving, serve};
+use store_reader::{Outcome, Part, Served, Serving, serve};
 use worker_duty::Step;
 
 /// Claims a chunk of updates once, and takes its updates into the sums of its partition.

@@ -3,13 +3,12 @@ ghost use Rattle.std.specs.Prelude.{IfOk};
 ghost use Rattle.graph_model.specs.Jobs.{IsWellFormedJob};
 
 use chunk_cursor::CursorSeat;
-use engine_gate::Gate;
 use gather_laws::VertexProgram;
 use graph_model::{Edge, Job, Update};
-use ports::{Beat, Disk, Memory};
+use ports::{Beat, Disk, Gate, Memory};
 use replica_merge::Replicas;
 use std::alloc::Global;
-use storage_engine::{Outcome, Serving};
+use store_reader::{Outcome, Serving};
 
 /// The bytes of a chunk's head, and the most of a record in any format.
 const HEAD_WIDTH: usize = 8;

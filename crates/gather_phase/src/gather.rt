@@ -4,17 +4,17 @@ ghost use Rattle.phase_model.specs.JobTerms.{terms_of};
 ghost use Rattle.worker_duty.specs.Views.{taken_by_seat, MayWork, HasWorked};
 ghost use Rattle.replica_merge.specs.Accumulators.{split_of};
 ghost use Rattle.gather_phase.specs.Rooms.{IsRoom};
-ghost use Rattle.gather_phase.specs.Phases.{IsServing, lens_of, adding_of, DeskRests, MayStopBy};
+ghost use Rattle.gather_phase.specs.Phases.{adding_of, DeskRests, MayStopBy};
+ghost use Rattle.store_reader.specs.Indexed.{IsServing, lens_of};
 ghost use Rattle.gather_phase.specs.Gathered.{HasGathered, HasFaultCause};
 ghost use Rattle.gather_phase.specs.Acting.{MayServeAt, HasServedAt, MayProposeAt, HasProposedAt, MayLeaveAt, HasLeftAt};
 
 use crate::acts::{leave_partition, propose_help, serve_chunk};
 use crate::desk::{GatherContext, GatherDesk};
-use engine_gate::Gate;
 use gather_laws::VertexProgram;
-use ports::Disk;
+use ports::{Disk, Gate};
 use steal_policy::Proposal;
-use storage_engine::Outcome;
+use store_reader::Outcome;
 use worker_duty::{Acts, Phase, Share, Step, work};
 
 /// What the duty of a worker knows of a gather phase.
@@ -23,7 +23,8 @@ struct Gathering;
 impl<'a, P: VertexProgram, D: Disk, G: Gate> Phase<GatherContext<'a, P, D, G>, GatherDesk<D>>
     for Gathering {
     ghost use Rattle.phase_model.specs.JobTerms.{terms_of};
-    ghost use Rattle.gather_phase.specs.Phases.{lens_of, GoesOn, DeskRests, DeskMeets, DeskStops};
+    ghost use Rattle.gather_phase.specs.Phases.{GoesOn, DeskRests, DeskMeets, DeskStops};
+    ghost use Rattle.store_reader.specs.Indexed.{lens_of};
     ghost use Rattle.gather_phase.specs.Acting.{hold_of};
 
     ghost hold = { hold_of };

@@ -1,7 +1,8 @@
 ghost use Rattle.std.specs.Prelude.{◌≡◌, ℕ, ◌<◌, length, slice_index_or};
 
 use super::*;
-use engine_gate::{Gate, MeetGate, OpenGate};
+use engine_gate::{MeetGate, OpenGate};
+use ports::Gate;
 use std::alloc::{AllocError, Global};
 use std::test::*;
 

@@ -10,6 +10,7 @@
 mod beat;
 mod disk;
 mod faults;
+mod gate;
 mod sink;
 mod source;
 mod synced;
@@ -17,6 +18,7 @@ mod synced;
 pub use beat::Beat;
 pub use disk::{Disk, Meter};
 pub use faults::{Failed, Memory};
+pub use gate::Gate;
 pub use sink::{Sink, write_all};
 pub use source::Source;
 pub use synced::{cut_synced, write_synced};

@@ -24,14 +24,13 @@ impl Replicas {
         requires bytes { 8 ≤ length bytes.old }
         requires end { (D.state disk.old).size + 8 * len_of (split_of self.old) partition < 2 ^ 63 }
         requires beat { (D.state disk.old).beat ≤ beat.now }
-        requires within { LiesWithin self.old (D.state disk.old).size }
         ensures device { HasAppended beat.now (bytes_of_numbers (sums_of self.old)) (D.state disk.old) (D.state disk.new) result }
-        ensures within { LiesWithin self.new (D.state disk.new).size }
+        ensures within { LiesWithin self.old (D.state disk.old).size → LiesWithin self.new (D.state disk.new).size }
         ensures split { split_of self.new ≡ split_of self.old }
         ensures unit { unit_of self.new ≡ unit_of self.old }
         ensures begun { (begun_of self.new ≡ begun_of self.old) × (sums_of self.new ≡ sums_of self.old) }
         ensures spilled { OnOk result (AsTold (λ before now. accumulators_of self.new now partition ≡ sums_of self.old) (D.state disk.old).bytes (D.state disk.new).bytes) }
-        ensures others { AsTold (KeepsOthers self.old self.new partition) (D.state disk.old).bytes (D.state disk.new).bytes }
+        ensures others { LiesWithin self.old (D.state disk.old).size → AsTold (KeepsOthers self.old self.new partition) (D.state disk.old).bytes (D.state disk.new).bytes }
         ensures kept { OnErr result (self.new.places ≡ self.old.places) }
     {
         let at = disk.size();

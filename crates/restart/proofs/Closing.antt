@@ -8,7 +8,7 @@ use Rattle.ports.proofs.Parts.{torn_byte}
 use Rattle.ports.proofs.Stops.{by_one, joined}
 use Rattle.ports.proofs.Told.{settled_has}
 use Rattle.store_model.specs.Heads.{IsOpenGraph}
-use Rattle.storage_engine.specs.Devices.{IsOpenDevice}
+use Rattle.store_reader.specs.Devices.{IsOpenDevice}
 use Rattle.restart.specs.Dropping.{IsAsBeforeOrShut, Closes}
 
 -- an image after a sync is one from before it

@@ -6,12 +6,12 @@ ghost use Rattle.ports.specs.Faults.{HasCause, HasCauseOfTwo, Rose};
 ghost use Rattle.ports.specs.Stops.{EachLeaves, IsStop, AreImages};
 ghost use Rattle.store_model.specs.Heads.{IsShutGraph};
 ghost use Rattle.store_model.specs.Kept.{IsUnprepared};
-ghost use Rattle.storage_engine.specs.Devices.{IsOpenDevice, IsShutDevice};
+ghost use Rattle.store_reader.specs.Devices.{IsOpenDevice, IsShutDevice};
 ghost use Rattle.restart.specs.Devices.{Each, OneRose, EachRow, OneRowRose};
 ghost use Rattle.restart.specs.Dropping.{Closes, Empties, HandsBack, IsEmpty, WhileDropped, WhileEmptied};
 
 use ports::{Beat, Disk, Failed, cut_synced, write_synced};
-use storage_engine::Store;
+use store_reader::Store;
 
 /// The gate of what is open, and the one that is written over it.
 const OPEN: u8 = 0xA5;

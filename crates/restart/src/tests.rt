@@ -8,7 +8,7 @@ use ports::{Beat, Disk, Failed};
 use std::alloc::{AllocError, Global};
 use std::process::Abort;
 use std::test::*;
-use storage_engine::Store;
+use store_reader::Store;
 
 /// A disk with so many bytes 0xA5, whose call with this number fails.
 fn disk_of(rt: &impl Abort, alloc: Global, bytes: &[u8], fails: &[u64]) -> MemDisk

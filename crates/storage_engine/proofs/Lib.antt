@@ -1,1 +1,10 @@
-pub mod Decoding
+pub mod Adding
+pub mod Beginning
+pub mod Ends
+pub mod Every
+pub mod Flushing
+pub mod Keeping
+pub mod Lists
+pub mod OneChunk
+pub mod Texts
+pub mod TwoBeats

@@ -1,3 +1,5 @@
-pub mod Devices
-pub mod Reading
-pub mod Serving
+pub mod Inside
+pub mod Making
+pub mod Preparing
+pub mod Steps
+pub mod Waiting

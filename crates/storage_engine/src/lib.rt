@@ -1,19 +1,27 @@
-//! A store on devices: what stands on its graph devices and values devices, and the chunks that it serves.
+//! A store on devices: how it is made from the text that is left in a source, and, by the names of `store_reader`, how it
+//! is read and serves its chunks.
 //!
-//! To the room above it promises that reads tell what stands on the devices, each by one call, that a claim is made once
-//! and gives the chunk at the place that it took, and that every fault has raised the count of its meter. It knows the
-//! ports, files of chunks, shared cursors and the definitions of stores, and touches nothing but the devices, meters and
-//! seats that it is handed.
+//! To the room above it promises that a store which `prepare` makes is exactly that of the job and the text, that a stop
+//! while it is made leaves a graph device that is not open, or whole ones, that each refusal has its cause, and that every
+//! fault has raised its count. It knows the ports, the reader of edge texts, files of chunks, the places of chunks and the
+//! definitions of stores, and touches nothing but the source and the devices that it is handed.
 #![tactic(auto)]
 
-mod reading;
-mod serving;
-#[cfg(test)]
-mod serving_tests;
-mod store;
+mod begin;
+mod device_steps;
+mod each_device;
+mod fault;
+mod head;
+mod maker;
+mod preparing;
 #[cfg(test)]
 mod tests;
+mod text;
+mod waiting;
+mod writing;
 
-pub use reading::{all_open, read_set, slot_head};
-pub use serving::{Served, Serving, Shelf, serve};
-pub use store::{Outcome, Part, SlotHead, Store};
+pub use fault::PrepareFault;
+pub use preparing::prepare;
+pub use store_reader::{
+    Outcome, Part, Served, Serving, Shelf, SlotHead, Store, all_open, read_set, serve, slot_head,
+};

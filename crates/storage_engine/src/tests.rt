@@ -1,124 +1,106 @@
-ghost use Rattle.std.specs.Prelude.{◌<◌};
-ghost use Rattle.partitioner.specs.Splits.{IsSplit};
+// A store of three edges on one engine, and a refused text.
+ghost use Rattle.std.specs.Prelude.{◌≡◌, ◌≤◌, length};
+ghost use Rattle.std.specs.List.{All};
+ghost use Rattle.mem_devices.specs.MemDisk.{disk_state};
+ghost use Rattle.graph_model.specs.Jobs.{IsWellFormedJob};
 
-use super::*;
-use graph_model::Value;
-use mem_devices::{MemDisk, MemMeter};
-use partitioner::Split;
-use ports::{Disk, Failed};
+use crate::{PrepareFault, prepare};
+use chunk_file::Index;
+use graph_model::{Job, Program};
+use mem_devices::{MemDisk, MemMeter, SureSource};
+use ports::{Beat, Disk};
 use std::alloc::Global;
 use std::process::Abort;
 use std::test::*;
+use store_reader::{Store, all_open};
 
-fn disk_of(rt: &impl Abort, alloc: Global, bytes: &[u8]) -> MemDisk {
-    MemDisk::new(alloc, bytes, &[]).expect(rt, "a disk")
+/// Shortest distances from vertex 0 of three, on one engine.
+fn job_of_three() -> Job
+    ensures job { IsWellFormedJob result }
+    ensures format { result.format ≡ 2 }
+    ensures engines { result.engines ≡ 1 }
+{
+    Job {
+        program: Program::Sssp(0),
+        vertices: 3,
+        engines: 1,
+        most: 2_097_152,
+        chunk: 4_096,
+        seed: 1,
+        alpha: 100,
+        limit: 100_000,
+        format: 2,
+        keep: 1,
+    }
 }
 
-/// The head of a graph device of the job of one engine and three vertices, with this gate.
-fn head(gate: u8) -> [u8; 65] {
-    let mut bytes = [0; 65];
-    bytes[0] = gate;
-    bytes[1] = 1;
-    bytes[64] = 0x47;
-    bytes
+/// One empty device, which no call has touched.
+fn one_device(rt: &impl Abort, alloc: Global) -> Vec<MemDisk>
+    ensures one { length result.items ≡ 1 }
+    ensures beats { All (λ disk. (disk_state disk).beat ≤ 0) result.items }
+{
+    let disk = MemDisk::new(alloc, &[], &[]).expect(rt, "a disk");
+    let mut devices = Vec::new(alloc);
+    devices.push(disk).expect(rt, "room");
+    devices
 }
 
-#[test]
-fn a_store_is_open_where_each_head_is_whole_and_open(rt: HostRuntime) -> Result<(), Fail> {
-    let alloc = rt.alloc();
-    let mut meter = MemMeter::new(alloc, &[])?;
+/// Makes a store with one engine out of a text.
+fn make(
+    rt: &impl Abort,
+    alloc: Global,
+    text: &[u8],
+) -> (Store<MemDisk>, Result<Index, PrepareFault>) {
     let mut store = Store {
-        graphs: Vec::new(alloc),
-        values: Vec::new(alloc),
+        graphs: one_device(rt, alloc),
+        values: one_device(rt, alloc),
         lanes: Vec::new(alloc),
         spills: Vec::new(alloc),
     };
-    store.graphs.push(disk_of(&rt, alloc, &head(0xA5)))?;
-    let one = all_open(&store, &mut meter);
-    store.graphs.push(disk_of(&rt, alloc, &[0xA5; 64]))?;
-    let short = all_open(&store, &mut meter);
-    store.graphs[1] = disk_of(&rt, alloc, &head(0));
-    let closed = all_open(&store, &mut meter);
-    store.graphs[1] = disk_of(&rt, alloc, &head(0xA5));
-    let both = all_open(&store, &mut meter);
-    assert_eq!(&rt; one, Ok(true));
-    assert_eq!(&rt; short, Ok(false));
-    assert_eq!(&rt; closed, Ok(false));
-    assert_eq!(&rt; both, Ok(true));
-    Ok(())
-}
-
-/// A values device of three vertices, with round 2 in slot 0 and round 3 in slot 1.
-fn values_device() -> [u8; 144] {
-    let mut bytes = [0; 144];
-    bytes[0] = 0xA5;
-    bytes[15] = 2;
-    bytes[23] = 1;
-    bytes[47] = 2;
-    bytes[63] = 1;
-    bytes[72] = 0xA5;
-    bytes[87] = 3;
-    bytes[119] = 2;
-    bytes[135] = 1;
-    bytes
-}
-
-/// The head of a slot of engine 0.
-fn head_of(
-    rt: &impl Abort,
-    disk: &MemDisk,
-    meter: &mut MemMeter,
-    split: &Split,
-    slot: u32,
-) -> Result<SlotHead, Failed>
-    requires split { IsSplit split.now }
-    requires slot { slot < 2 }
-{
-    let own = split.own(0);
-    assert!(rt; disk.size() == 2 * (24 + 16 * u64::from(own)));
-    slot_head(disk, meter, split, 0, slot)
-}
-
-/// The values of partition 0, which has three vertices.
-fn set_of(
-    rt: &impl Abort,
-    disk: &MemDisk,
-    meter: &mut MemMeter,
-    split: &Split,
-    slot: u32,
-) -> Result<[Value; 3], Failed>
-    requires split { IsSplit split.now }
-    requires slot { slot < 2 }
-{
-    let own = split.own(split.master_of(0));
-    let (first, end) = split.range(0);
-    assert!(rt; disk.size() == 2 * (24 + 16 * u64::from(own)));
-    assert!(rt; u64::from(end) == u64::from(first) + 3);
-    let mut bytes = [0; 48];
-    let mut values = [Value { main: 9, side: 9 }; 3];
-    read_set(disk, meter, split, 0, slot, &mut bytes, &mut values)?;
-    Ok(values)
+    let mut meter = MemMeter::new(alloc, &[]).expect(rt, "a meter");
+    let mut source = SureSource::new(alloc, text).expect(rt, "a source");
+    let mut beat = Beat::new();
+    let made = prepare(
+        alloc,
+        &job_of_three(),
+        &mut source,
+        &mut store,
+        &mut meter,
+        &mut beat,
+    );
+    (store, made)
 }
 
 #[test]
-fn slots_of_a_whole_store_are_read(rt: HostRuntime) -> Result<(), Fail> {
+fn a_store_of_three_edges_is_made(rt: HostRuntime) -> Result<(), Fail> {
     let alloc = rt.alloc();
-    let disk = disk_of(&rt, alloc, &values_device());
-    let mut meter = MemMeter::new(alloc, &[4])?;
-    let split = Split::of(3, 1, 10).expect(&rt, "a split");
-    let first = head_of(&rt, &disk, &mut meter, &split, 0);
-    let second = head_of(&rt, &disk, &mut meter, &split, 1);
-    let values = set_of(&rt, &disk, &mut meter, &split, 1);
-    let failed = head_of(&rt, &disk, &mut meter, &split, 1);
-    let head = |round: u64, changed: u64| SlotHead {
-        is_open: true,
-        round,
-        changed,
-    };
-    let value = |main: u64| Value { main, side: 0 };
-    assert_eq!(&rt; first, Ok(head(2, 1)));
-    assert_eq!(&rt; second, Ok(head(3, 0)));
-    assert_eq!(&rt; values, Ok([value(0), value(2), value(1)]));
-    assert_eq!(&rt; failed, Err(Failed));
+    let (store, made) = make(&rt, alloc, b"0 1 5\n0 2 1\n2 1 1\n");
+    let index = made.expect(&rt, "a store");
+    let mut meter = MemMeter::new(alloc, &[])?;
+    let mut front = [0; 8];
+    let mut edge = [0; 16];
+    assert!(&rt; store.graphs.len() == 1 && store.values.len() == 1);
+    assert_eq!(&rt; store.graphs[0].size(), 121);
+    assert_eq!(&rt; store.values[0].size(), 144);
+    store.graphs[0]
+        .read_at(&mut meter, 0, &mut front)
+        .expect(&rt, "a read");
+    store.graphs[0]
+        .read_at(&mut meter, 73, &mut edge)
+        .expect(&rt, "a read");
+    assert_eq!(&rt; front, [0xA5, 2, 1, 0, 2, 0, 0, 1]);
+    assert_eq!(&rt; edge, [0, 0, 0, 0, 0, 0, 0, 1, 0, 0, 0, 0, 0, 0, 0, 5]);
+    assert_eq!(&rt; index.total(), 1);
+    assert_eq!(&rt; all_open(&store, &mut meter), Ok(true));
+    Ok(())
+}
+
+#[test]
+fn a_refused_text_leaves_no_open_store(rt: HostRuntime) -> Result<(), Fail> {
+    let alloc = rt.alloc();
+    let (store, refused) = make(&rt, alloc, b"0 x\n");
+    let mut meter = MemMeter::new(alloc, &[])?;
+    assert!(&rt; matches!(refused, Err(PrepareFault::BadLine(1))));
+    assert_eq!(&rt; all_open(&store, &mut meter), Ok(false));
     Ok(())
 }

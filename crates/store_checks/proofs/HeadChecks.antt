@@ -8,7 +8,7 @@ use Rattle.store_model.specs.declared.field.Field.{Field}
 use Rattle.store_model.specs.declared.field.TheConstants.{FIELDS}
 use Rattle.store_model.specs.Damage.{Fault, first_of, first_over, first_bad, at_graph, engines_fault}
 use Rattle.store_model.specs.Damage as damage
-use Rattle.storage_engine.specs.declared.store.Part.TheVariants.{Graph, Values, Lane}
+use Rattle.store_reader.specs.declared.store.Part.TheVariants.{Graph, Values, Lane}
 use Rattle.store_checks.specs.declared.fault.RecoverFault.{RecoverFault}
 use Rattle.store_checks.specs.declared.fault.RecoverFault.TheVariants.{NotPrepared, EnginesDiffer, Damaged, DiskFault, Memory}
 use Rattle.ports.specs.Disk.{DiskState}

@@ -9,8 +9,8 @@ use Rattle.ports.proofs.Parts.{bytes_at-within}
 use Rattle.store_model.specs.Slots.{slot_start, slot_of, device_size, number_bytes}
 use Rattle.store_model.specs.Damage as damage
 use Rattle.store_model.specs.Damage.{Fault, is_open_slot, round_in, changed_of, is_good_slot, slot_fault, device_fault, ValuesDamaged}
-use Rattle.storage_engine.specs.declared.store.SlotHead.{SlotHead}
-use Rattle.storage_engine.specs.Reading.{TellsHead}
+use Rattle.store_reader.specs.declared.store.SlotHead.{SlotHead}
+use Rattle.store_reader.specs.Reading.{TellsHead}
 
 -- the two numbers
 first_eight : (round changed : ℕ) → take 8 (number_bytes round changed) ≡ to_be_bytes w64 round

@@ -3,7 +3,7 @@ use Rattle.std.specs.Prelude.{◌≡◌, ℕ, ◌<◌, List, Some, length, slice
 use Rattle.ports.specs.Disk.{DiskState}
 use Rattle.store_model.specs.Kept.{device}
 use Rattle.store_model.specs.Damage as damage
-use Rattle.storage_engine.specs.declared.store.Part.TheVariants.{Graph, Values, Lane}
+use Rattle.store_reader.specs.declared.store.Part.TheVariants.{Graph, Values, Lane}
 use Rattle.chunk_file.specs.declared.fault.ChunkFault.{ChunkFault}
 use Rattle.chunk_file.specs.declared.fault.ChunkFault.TheVariants.{DiskFault as ReadFailed, Damaged as NoChunk, Memory as NoMemory}
 use Rattle.store_checks.specs.declared.fault.RecoverFault.{RecoverFault}

@@ -1,4 +1,4 @@
-use storage_engine::Part;
+use store_reader::Part;
 use thiserror::Error;
 
 /// Why a store was not recovered. Of several faults of the devices' bytes it is the first by the order of the checks.

@@ -6,13 +6,13 @@ ghost use Rattle.graph_model.specs.Jobs.{IsWellFormedJob};
 ghost use Rattle.store_model.specs.Damage.{first_bad, first_over, is_good, head_of, head_fault, other_fault, heads_fault};
 ghost use Rattle.store_checks.specs.Jobs.{SaysJob};
 ghost use Rattle.store_checks.specs.Causes.{Tell, HasRecoverCause};
-ghost use Rattle.storage_engine.specs.declared.store.Part.TheVariants.{Graph};
+ghost use Rattle.store_reader.specs.declared.store.Part.TheVariants.{Graph};
 
 use crate::RecoverFault;
 use crate::fields::{HEAD_SIZE, bad_field, job_of, other_field};
 use graph_model::Job;
 use ports::{Disk, Failed};
-use storage_engine::Part;
+use store_reader::Part;
 use store_model::FIELDS;
 
 /// The job of a store by the heads of its graph devices: each is well formed, they agree, and there are as many as they

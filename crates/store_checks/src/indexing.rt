@@ -15,7 +15,7 @@ use graph_model::Job;
 use partitioner::Split;
 use ports::Disk;
 use std::alloc::Global;
-use storage_engine::Part;
+use store_reader::Part;
 
 /// The places of the chunks of all graph devices.
 pub fn index_graphs<D: Disk>(

@@ -7,15 +7,15 @@ ghost use Rattle.store_model.specs.Slots;
 ghost use Rattle.store_model.specs.Slots.{device_size};
 ghost use Rattle.store_model.specs.Kept.{device};
 ghost use Rattle.store_model.specs.Damage.{first_over, device_fault, slot_fault, is_good_slot};
-ghost use Rattle.storage_engine.specs.Reading.{own_in};
-ghost use Rattle.storage_engine.specs.declared.store.Part.TheVariants.{Values};
+ghost use Rattle.store_reader.specs.Reading.{own_in};
+ghost use Rattle.store_reader.specs.declared.store.Part.TheVariants.{Values};
 ghost use Rattle.store_checks.specs.Causes.{Tell, HasRecoverCause};
 ghost use Rattle.store_checks.specs.Rounds.{TellsSlot, IsWithin};
 
 use crate::RecoverFault;
 use partitioner::Split;
 use ports::Disk;
-use storage_engine::{Part, slot_head};
+use store_reader::{Part, slot_head};
 
 /// A round that stands in a slot of each engine, and how many values changed in it.
 #[derive(Clone, Copy, PartialEq, Eq, Debug)]

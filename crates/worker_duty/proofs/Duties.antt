@@ -6,7 +6,7 @@ use Rattle.std.proofs.lemmas.List.{append-nil}
 use Rattle.std.proofs.lemmas.List.Elements.{All-weaker, filter-append}
 use Rattle.chunk_object.specs.declared.call.Call.{Call}
 use Rattle.chunk_object.specs.Epochs.{Terms}
-use Rattle.chunk_object.specs.Duty.{partition_of, is_on, ClaimsToTheEnd, Helps, IsMaster, IsDutiful}
+use Rattle.chunk_object.specs.Duty.{partition_of, is_on, ClaimsToTheEnd, Helps, IsMaster, IsDutiful, BeginsDutiful}
 use Rattle.chunk_cursor.specs.declared.view.View.{View}
 use Rattle.chunk_cursor.specs.View.{with_calls}
 use Rattle.chunk_cursor.proofs.Knowing.{with_calls-append}
@@ -101,6 +101,13 @@ module _ (terms : Terms) (small : terms.partitions ≤ 64) (worker : ℕ) where
     claims_are = own.claims_are;
     admissions_are = own.admissions_are;
   }
+
+  some_owns : (calls : List Call) × OwnTo terms worker terms.partitions calls
+  some_owns = fills_all is_on (is_master terms worker) (ClaimsToTheEnd terms.engines) apart_partitions 0 terms.partitions [] (omega arith) some_own (fills_none is_on (is_master terms worker) (ClaimsToTheEnd terms.engines))
+
+  -- a worker that made no call can go on to its whole duty
+  pub begins_nothing : BeginsDutiful terms worker []
+  begins_nothing = (some_owns.0 ++ some_others.0, dutiful some_owns.0 some_others.0 some_owns.1 some_others.1)
 
   -- all own partitions, and then the others, or some of them
   pub all_worked : (partitions : ℕ) → partitions ≡ terms.partitions → (old middle new : View) (first then : Worked) → first.is_through ≡ true → first.admitted ≡ 0 → IsPiece (OwnTo terms worker partitions) old middle first → IsPiece (OthersTo terms worker partitions) middle new then

@@ -17,4 +17,4 @@ mod laws;
 pub use acts::{Acts, Phase, Share, Step, Worked};
 pub use ask::ask_about;
 pub use duty::work;
-pub use laws::seats_may_work;
+pub use laws::{no_call_begins_a_duty, seats_may_work};

@@ -7,7 +7,7 @@ use Rattle.ports.specs.Disk.{DiskState}
 use Rattle.ports.specs.Stops.{Leaves}
 use Rattle.ports.specs.Told.{AsTold}
 use Rattle.ports.proofs.Told.{as_told_to}
-use Rattle.storage_engine.specs.Reading.{own_in}
+use Rattle.store_reader.specs.Reading.{own_in}
 use Rattle.store_model.specs.Slots.{slot_of}
 use Rattle.checkpoint.specs.Applied.{sums_in, applied_on, changed_by}
 use Rattle.checkpoint.specs.SlotStates.{SameOther}

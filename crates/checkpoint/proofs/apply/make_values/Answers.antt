@@ -1,7 +1,7 @@
 -- The values before are those that were read.
 use Rattle.std.proofs.Common.{◌≡◌, ℕ, List, arith}
 use Rattle.store_model.specs.Slots.{values_bytes, set_bytes}
-use Rattle.storage_engine.specs.Reading.{own_in, master_in, len_in, before_in}
+use Rattle.store_reader.specs.Reading.{own_in, master_in, len_in, before_in}
 use Rattle.checkpoint.proofs.ValueSteps.{next_made, told_is}
 use Rattle.checkpoint.proofs.apply.make_values.Goals as goal
 

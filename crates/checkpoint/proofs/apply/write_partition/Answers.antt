@@ -1,7 +1,7 @@
 -- The sums are merged, and then the values are made and written.
 use Rattle.std.proofs.Common.{◌≡◌, ℕ, List, subst, arith}
 use Rattle.graph_model.specs.Programs.{Rules}
-use Rattle.storage_engine.specs.Reading.{own_in, master_in}
+use Rattle.store_reader.specs.Reading.{own_in, master_in}
 use Rattle.checkpoint.specs.Applied.{sums_in}
 use Rattle.checkpoint.specs.Storing.{StoresPartition}
 use Rattle.checkpoint.proofs.SlotSteps.{closed_start}

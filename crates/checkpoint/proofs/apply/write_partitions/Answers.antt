@@ -4,7 +4,7 @@ use Rattle.graph_model.specs.Programs.{Rules}
 use Rattle.partitioner.specs.declared.split.Split.{Split}
 use Rattle.ports.specs.Disk.{DiskState, InEveryImage}
 use Rattle.ports.specs.Stops.{Leaves}
-use Rattle.storage_engine.specs.Reading.{own_in, master_in}
+use Rattle.store_reader.specs.Reading.{own_in, master_in}
 use Rattle.store_model.specs.Slots.{IsClosed}
 use Rattle.checkpoint.specs.Applied.{sums_in}
 use Rattle.checkpoint.specs.SlotStates.{HasExactSize, WhileClosing}

@@ -4,7 +4,7 @@ use Rattle.partitioner.proofs.Owned.{own_before-fits}
 use Rattle.ports.specs.Bytes.{after_write}
 use Rattle.ports.specs.Disk.{DiskState, IsDisk}
 use Rattle.store_model.specs.Slots.{set_start, values_bytes}
-use Rattle.storage_engine.specs.Reading.{own_in, master_in, len_in, before_in}
+use Rattle.store_reader.specs.Reading.{own_in, master_in, len_in, before_in}
 use Rattle.checkpoint.specs.Applied.{changed_by}
 use Rattle.checkpoint.proofs.SlotSteps.{closed_start, set_told_other, told_two}
 use Rattle.checkpoint.proofs.apply.write_values.Goals as goal

@@ -6,7 +6,7 @@ use Rattle.ports.specs.Stops.{Leaves}
 use Rattle.ports.specs.Told.{AsTold}
 use Rattle.ports.proofs.Told.{as_told_then}
 use Rattle.store_model.specs.Slots.{slot_start, slot_bytes}
-use Rattle.storage_engine.specs.Reading.{own_in}
+use Rattle.store_reader.specs.Reading.{own_in}
 use Rattle.checkpoint.specs.SlotStates.{SameOther}
 use Rattle.checkpoint.proofs.SlotSteps.{closing_run, told_other, told_gate}
 use Rattle.checkpoint.proofs.slots.close_slot.Goals as goal

@@ -7,7 +7,7 @@ use Rattle.ports.specs.Told.{AsTold}
 use Rattle.ports.proofs.Stops.{weaker}
 use Rattle.ports.proofs.Told.{as_told_then, on_ok_two}
 use Rattle.store_model.specs.Slots.{slot_start, number_bytes}
-use Rattle.storage_engine.specs.Reading.{own_in}
+use Rattle.store_reader.specs.Reading.{own_in}
 use Rattle.checkpoint.specs.SlotStates.{SameOther, WhileOpening}
 use Rattle.checkpoint.proofs.SlotSteps.{numbering, opening_run, gate_opened, told_other}
 use Rattle.checkpoint.proofs.slots.open_slot.Goals as goal

@@ -7,7 +7,7 @@ use Rattle.ports.proofs.Parts.{torn_same}
 use Rattle.ports.proofs.Stops.{in_part, weaker}
 use Rattle.store_model.specs.Slots.{slot_start, slot_size, set_start, device_size}
 use Rattle.store_model.proofs.SlotLemmas.{set_within}
-use Rattle.storage_engine.specs.Reading.{own_in, master_in, before_in, len_in}
+use Rattle.store_reader.specs.Reading.{own_in, master_in, before_in, len_in}
 use Rattle.checkpoint.specs.SlotStates.{WhileWriting}
 use Rattle.checkpoint.proofs.SlotSteps.{writing, exact_after}
 use Rattle.checkpoint.proofs.slots.write_set.Goals as goal

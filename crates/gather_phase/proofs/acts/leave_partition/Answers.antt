@@ -2,7 +2,8 @@ use Rattle.std.proofs.Common.{◌≡◌, ◌+◌, ◌*◌, ◌<◌, length, inl,
 use Rattle.ports.specs.Told.{AsTold}
 use Rattle.replica_merge.specs.Accumulators.{sums_of, len_of, accumulators_of, KeepsOthers}
 use Rattle.replica_merge.proofs.NumberLemmas.{length-bytes_of_numbers}
-use Rattle.gather_phase.specs.Phases.{lens_of, Takes, adding_of}
+use Rattle.gather_phase.specs.Phases.{Takes, adding_of}
+use Rattle.store_reader.specs.Indexed.{lens_of}
 use Rattle.gather_phase.proofs.Partition.{spill_fits}
 use Rattle.gather_phase.proofs.Serving.{long_sums, stands_begun}
 use Rattle.gather_phase.proofs.Steps.{left_spilled, left_idle}

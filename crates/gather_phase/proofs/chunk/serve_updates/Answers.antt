@@ -2,7 +2,8 @@ use Rattle.std.proofs.Common.{◌≡◌, ◌^◌, ◌<◌, Bool, cond, length, t
 use Rattle.graph_model.specs.Programs.{plus}
 use Rattle.chunk_object.specs.Epochs.{cursor_of}
 use Rattle.replica_merge.specs.Accumulators.{sums_of, len_of}
-use Rattle.gather_phase.specs.Phases.{lens_of, Takes, part_of, adding_of}
+use Rattle.gather_phase.specs.Phases.{Takes, part_of, adding_of}
+use Rattle.store_reader.specs.Indexed.{lens_of}
 use Rattle.gather_phase.proofs.Reading.{updates_within, takes_updates, refuses_updates}
 use Rattle.gather_phase.proofs.Serving.{met_none, come_begun, come_split, come_stays, met_more, taken_of, long_sums}
 use Rattle.gather_phase.proofs.chunk.serve_updates.Goals as goal

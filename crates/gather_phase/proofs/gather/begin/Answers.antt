@@ -1,5 +1,6 @@
 use Rattle.std.proofs.Common.{refl, ◌∙◌}
-use Rattle.gather_phase.specs.Phases.{lens_of, Takes, adding_of}
+use Rattle.gather_phase.specs.Phases.{Takes, adding_of}
+use Rattle.store_reader.specs.Indexed.{lens_of}
 use Rattle.gather_phase.proofs.Steps.{rests_first}
 use Rattle.gather_phase.proofs.Beginning.{rests_on}
 use Rattle.gather_phase.proofs.gather.begin.Goals as goal

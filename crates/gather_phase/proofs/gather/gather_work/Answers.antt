@@ -7,7 +7,8 @@ use Rattle.phase_model.specs.Taken.{records_of}
 use Rattle.phase_model.specs.Sums.{sum_at, counts_of}
 use Rattle.worker_duty.specs.Views.{taken_by_seat, MayWork}
 use Rattle.replica_merge.specs.Accumulators.{len_of}
-use Rattle.gather_phase.specs.Phases.{lens_of, Takes, adding_of, MayStopBy}
+use Rattle.gather_phase.specs.Phases.{Takes, adding_of, MayStopBy}
+use Rattle.store_reader.specs.Indexed.{lens_of}
 use Rattle.gather_phase.specs.Gathered.{over_partition}
 use Rattle.gather_phase.proofs.Homes.{sums_all, updates_homed, edges_homed, counts-records, sums_are_degrees}
 use Rattle.gather_phase.proofs.Steps.{enters}

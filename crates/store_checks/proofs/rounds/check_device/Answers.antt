@@ -3,7 +3,7 @@ use Rattle.ports.specs.Faults.{Rose}
 use Rattle.ports.proofs.Told.{sized_at}
 use Rattle.store_model.specs.Slots.{device_size}
 use Rattle.store_model.specs.Damage.{slot_fault, device_fault}
-use Rattle.storage_engine.specs.Reading.{own_in}
+use Rattle.store_reader.specs.Reading.{own_in}
 use Rattle.store_checks.specs.Causes.{HasRecoverCause}
 use Rattle.store_checks.proofs.HeadChecks.{cause_by}
 use Rattle.store_checks.proofs.SlotReads.{wrong_size, right_size, good_slot, first_slot}

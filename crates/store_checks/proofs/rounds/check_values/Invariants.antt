@@ -2,7 +2,7 @@ use Rattle.std.proofs.Common.{◌≡◌, ◌<◌, ◌≤◌, ℕ, List, None, ge
 use Rattle.store_model.specs.Slots.{device_size}
 use Rattle.store_model.specs.Kept.{device}
 use Rattle.store_model.specs.Damage.{first_over, device_fault}
-use Rattle.storage_engine.specs.Reading.{own_in}
+use Rattle.store_reader.specs.Reading.{own_in}
 use Rattle.store_checks.specs.Causes.{Tell}
 use Rattle.store_checks.proofs.rounds.check_values.Given as goal
 

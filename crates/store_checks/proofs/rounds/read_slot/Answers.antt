@@ -2,7 +2,7 @@ use Rattle.std.proofs.Common.{◌≡◌, ◌∙◌, ◌==◌, ◌&&◌, ◌<◌,
 use Rattle.ports.specs.Faults.{Rose}
 use Rattle.store_model.specs.Slots.{slot_of, slot_start}
 use Rattle.store_model.specs.Damage.{slot_fault, ValuesDamaged}
-use Rattle.storage_engine.specs.Reading.{own_in, TellsHead}
+use Rattle.store_reader.specs.Reading.{own_in, TellsHead}
 use Rattle.store_checks.specs.Causes.{HasRecoverCause}
 use Rattle.store_checks.proofs.SlotReads.{round_read, changed_read, open_read, open_slot_test, bad_slot, is_open_then}
 use Rattle.store_checks.proofs.rounds.read_slot.Goals as goal

@@ -11,16 +11,16 @@ use Rattle.replica_merge.proofs.PlaceLemmas.{told_kept, told_kept_others, told_w
 use Rattle.replica_merge.proofs.replicas.Replicas.spill.Goals as goal
 
 pub returns-in_err-write_numbers-clause-others : goal.returns-in_err-write_numbers-clause-others
-returns-in_err-write_numbers-clause-others g c =
+returns-in_err-write_numbers-clause-others g c within =
     let disks = g.met.D.Disk g.world.𝓛 g.world.𝓜 g.world.𝓡 ((λ s x. x), (λ x. x), (λ x. x), λ x. x) in
     let r : Replicas = c.args.self.now in
     let old : DiskState = g.D.Disk.state c.args.disk.now in
     let law : IsDisk old = disks.lawful c.args.disk.now in
     told_kept r.places.items (part_len r.split.vertices r.split.parts) r.split.parts c.args.partition r.unit old.size (length (bytes_of_numbers c.as_slice.result.now))
-    old.bytes (g.D.Disk.state c.write_numbers.new.disk).bytes law.sized c.in_err-write_numbers.ensures.appended.bytes c.requires.within
+    old.bytes (g.D.Disk.state c.write_numbers.new.disk).bytes law.sized c.in_err-write_numbers.ensures.appended.bytes within
 
 pub returns-clause-within : goal.returns-clause-within
-returns-clause-within g c =
+returns-clause-within g c within =
     let r : Replicas = c.args.self.now in
     let old : DiskState = g.D.Disk.state c.args.disk.now in
     let new : DiskState = g.D.Disk.state c.write_numbers.new.disk in
@@ -29,7 +29,7 @@ returns-clause-within g c =
     noted_within r.places.items (part_len r.split.vertices r.split.parts) r.split.parts c.args.partition c.size-at.result old.size new.size
     (omega (arith, r.noted, r.places.ok.0)) (omega (arith, r.begun, c.requires.partition))
     (omega (arith, c.in_ok-write_numbers.ensures.appended.grown, length-bytes_of_numbers c.as_slice.result.now, c.as_slice.ensures.len, r.long, same))
-    c.in_ok-write_numbers.ensures.appended.no_shorter c.requires.within
+    c.in_ok-write_numbers.ensures.appended.no_shorter within
 
 pub returns-clause-spilled : goal.returns-clause-spilled
 returns-clause-spilled g c =
@@ -47,10 +47,10 @@ returns-clause-spilled g c =
     (omega (arith, r.begun, r.noted, r.places.ok.0, c.requires.partition)) (omega (arith, r.long, same, c.as_slice.ensures.len, ap length c.as_slice.ensures.value)) c.size-at.ensures (subst (λ (numbers : List ℕ). (k : ℕ) → get_or numbers k 0 < 2 ^ 64) c.as_slice.ensures.value c.in_ok-write_numbers.ensures.fit) law.sized written.appended
 
 pub returns-clause-others : goal.returns-clause-others
-returns-clause-others g c =
+returns-clause-others g c within =
     let disks = g.met.D.Disk g.world.𝓛 g.world.𝓜 g.world.𝓡 ((λ s x. x), (λ x. x), (λ x. x), λ x. x) in
     let r : Replicas = c.args.self.now in
     let old : DiskState = g.D.Disk.state c.args.disk.now in
     let law : IsDisk old = disks.lawful c.args.disk.now in
     told_kept_others r.places.items (Some c.size-at.result) (part_len r.split.vertices r.split.parts) r.split.parts c.args.partition r.unit old.size (length (bytes_of_numbers c.as_slice.result.now))
-    old.bytes (g.D.Disk.state c.write_numbers.new.disk).bytes law.sized c.in_ok-write_numbers.ensures.appended.bytes c.requires.within
+    old.bytes (g.D.Disk.state c.write_numbers.new.disk).bytes law.sized c.in_ok-write_numbers.ensures.appended.bytes within

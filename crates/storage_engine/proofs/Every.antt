@@ -1,0 +1,119 @@
+-- Steps over several devices, one device after another.
+use Rattle.std.proofs.Common.{◌≡◌, ◌≢◌, ◌∙◌, ℕ, ◌+◌, ◌-◌, ◌<◌, ◌≤◌, ◌==◌, Bool, true, false, List, length, get_or, set, refl, ap, sym, subst, arith}
+use Rattle.std.proofs.lemmas.Bool.{eqb-true, eqb-false}
+use Rattle.std.proofs.lemmas.List.{get_or-set_same, get_or-set_other, get_or_default, length-set}
+use Rattle.ports.specs.Disk.{DiskState, IsDisk, InEveryImage}
+use Rattle.ports.specs.Faults.{Rose}
+use Rattle.store_model.specs.Heads.{IsShutGraph}
+use Rattle.storage_engine.specs.Steps.{Anything, Step, Each, OneRose, IsClosedFront, Opens}
+use Rattle.storage_engine.proofs.Keeping.{step_same, step_then, step_anything, closed_step, opens_same}
+
+-- an entry after a write: the new one, or the old one
+at_set_by : {X : Type 0} (P : ℕ → X → Type 0) (xs : List X) (e k : ℕ) (new d : X) → e < length xs → (k ≡ e → P e new) → (k ≢ e → P k (get_or xs k d)) → (same : Bool) → (k == e) ≡ same → P k (get_or (set xs e new) k d)
+at_set_by P xs e k new d within here other true is =
+    let same : k ≡ e = eqb-true k e is in
+    subst (λ j. P j (get_or (set xs e new) j d)) (sym same) (subst (P e) (sym (get_or-set_same xs e new d within)) (here same))
+at_set_by P xs e k new d within here other false is =
+    let apart : k ≢ e = eqb-false k e is in
+    subst (P k) (sym (get_or-set_other xs e k new d apart)) (other apart)
+
+pub at_set : {X : Type 0} (P : ℕ → X → Type 0) (xs : List X) (e k : ℕ) (new d : X) → e < length xs → (k ≡ e → P e new) → (k ≢ e → P k (get_or xs k d)) → P k (get_or (set xs e new) k d)
+at_set P xs e k new d within here other = at_set_by P xs e k new d within here other (k == e) refl
+
+-- no call
+pub each_same : {X : Type 0} (state : X → DiskState) (P : List ℕ → Type 0) (number : ℕ) (disks : List X) → ((x : X) → IsDisk (state x)) → Each state (Step P number) disks disks
+each_same state P number disks laws = record { many = refl; each = λ e d within. step_same P number (state (get_or disks e d)) (laws (get_or disks e d)) }
+
+-- a step of one of them
+pub each_set : {X : Type 0} (state : X → DiskState) (P : List ℕ → Type 0) (number : ℕ) (olds mids : List X) (e : ℕ) (mid new : X) → ((x : X) → IsDisk (state x))
+    → e < length mids → Each state (Step P number) olds mids → Step P number (state (get_or mids e mid)) (state new) → Each state (Step P number) olds (set mids e new)
+each_set {X} state P number olds mids e mid new laws within all step = record {
+  many = length-set mids e new ∙ all.many;
+  each = λ k d below.
+      at_set (λ j x. Step P number (state (get_or olds j d)) (state x)) mids e k new d within
+      (λ same. step_then P number (state (get_or olds e d)) (state (get_or mids e d)) (state new) (laws (get_or mids e d)) (all.each e d (omega (arith, within, all.many))) (subst (λ x. Step P number (state x) (state new)) (get_or_default mids e mid d within) step))
+      (λ other. all.each k d below);
+}
+
+-- one run over all and then another
+pub each_then : {X : Type 0} (state : X → DiskState) (P : List ℕ → Type 0) (number : ℕ) (olds mids news : List X) → ((x : X) → IsDisk (state x))
+    → Each state (Step P number) olds mids → Each state (Step P number) mids news → Each state (Step P number) olds news
+each_then state P number olds mids news laws first next = record {
+  many = next.many ∙ first.many;
+  each = λ e d within. step_then P number (state (get_or olds e d)) (state (get_or mids e d)) (state (get_or news e d)) (laws (get_or mids e d)) (first.each e d within) (next.each e d (omega (arith, within, first.many)));
+}
+
+-- The cause of a fault.
+rose_before : (a b c : ℕ) → a ≤ b → Rose b c → Rose a c
+rose_before a b c earlier rose = omega arith
+
+rose_after : (a b c : ℕ) → Rose a b → b ≤ c → Rose a c
+rose_after a b c rose later = omega arith
+
+pub one_rose_here : {X : Type 0} (state : X → DiskState) (P : List ℕ → Type 0) (number : ℕ) (olds mids : List X) (e : ℕ) (mid new : X) → e < length mids → Each state (Step P number) olds mids
+    → Rose (state (get_or mids e mid)).faults (state new).faults → OneRose state olds (set mids e new)
+one_rose_here {X} state P number olds mids e mid new within all rose = (
+  e,
+  omega (arith, within, all.many),
+  λ d.
+      subst (λ x. Rose (state (get_or olds e d)).faults (state x).faults) (sym (get_or-set_same mids e new d within))
+      (rose_before _ (state (get_or mids e d)).faults _ (all.each e d (omega (arith, within, all.many))).faults
+      (subst (λ x. Rose (state x).faults (state new).faults) (get_or_default mids e mid d within) rose)),
+)
+
+-- it rose in the second of two runs, or in the first
+pub one_rose_later : {X : Type 0} (state : X → DiskState) (P : List ℕ → Type 0) (number : ℕ) (olds mids news : List X) → Each state (Step P number) olds mids → OneRose state mids news → OneRose state olds news
+one_rose_later state P number olds mids news first rose =
+    (rose.0, omega (arith, rose.1, first.many), λ d. rose_before _ (state (get_or mids rose.0 d)).faults _ (first.each rose.0 d (omega (arith, rose.1, first.many))).faults (rose.2 d))
+
+pub one_rose_earlier : {X : Type 0} (state : X → DiskState) (P : List ℕ → Type 0) (number : ℕ) (olds mids news : List X) → length mids ≡ length olds → OneRose state olds mids → Each state (Step P number) mids news → OneRose state olds news
+one_rose_earlier state P number olds mids news many rose next =
+    (rose.0, rose.1, λ d. rose_after _ (state (get_or mids rose.0 d)).faults _ (rose.2 d) (next.each rose.0 d (omega (arith, rose.1, many))).faults)
+
+-- The devices below a number have had their step, and the others no call.
+pub record DoneBelow {X : Type 0} (state : X → DiskState) (R : DiskState → DiskState → Type 0) (Q : ℕ → DiskState → DiskState → Type 0) (e : ℕ) (olds mids : List X) : Type 0 where
+  pub steps : Each state R olds mids
+  pub done : (k : ℕ) (d : X) → k < e → Q k (state (get_or olds k d)) (state (get_or mids k d))
+  pub rest : (k : ℕ) (d : X) → e ≤ k → get_or mids k d ≡ get_or olds k d
+
+pub none_done : {X : Type 0} (state : X → DiskState) (R : DiskState → DiskState → Type 0) (Q : ℕ → DiskState → DiskState → Type 0) (disks : List X) → Each state R disks disks → DoneBelow state R Q 0 disks disks
+none_done state R Q disks same = record { steps = same; done = λ k d below. absurd (omega arith); rest = λ k d from. refl }
+
+pub one_done : {X : Type 0} (state : X → DiskState) (R : DiskState → DiskState → Type 0) (Q : ℕ → DiskState → DiskState → Type 0) (e : ℕ) (olds mids : List X) (mid new : X) → e < length mids
+    → DoneBelow state R Q e olds mids → Each state R olds (set mids e new) → Q e (state (get_or mids e mid)) (state new) → DoneBelow state R Q (e + 1) olds (set mids e new)
+one_done {X} state R Q e olds mids mid new within below steps now = record {
+  steps = steps;
+  done = λ k d less.
+      at_set (λ j x. Q j (state (get_or olds j d)) (state x)) mids e k new d within
+      (λ same. subst (λ x. Q e (state x) (state new)) (get_or_default mids e mid d within ∙ below.rest e d (omega arith)) now)
+      (λ other. below.done k d (omega arith));
+  rest = λ k d from. get_or-set_other mids e k new d (omega arith) ∙ below.rest k d (omega arith);
+}
+
+-- a step of a device that had none before
+pub each_set_first : {X : Type 0} (state : X → DiskState) (R : DiskState → DiskState → Type 0) (olds mids : List X) (e : ℕ) (mid new : X)
+    → e < length mids → Each state R olds mids → ((d : X) → get_or mids e d ≡ get_or olds e d) → R (state (get_or mids e mid)) (state new) → Each state R olds (set mids e new)
+each_set_first {X} state R olds mids e mid new within all untouched step = record {
+  many = length-set mids e new ∙ all.many;
+  each = λ k d below.
+      at_set (λ j x. R (state (get_or olds j d)) (state x)) mids e k new d within
+      (λ same. subst (λ x. R (state x) (state new)) (get_or_default mids e mid d within ∙ untouched d) step)
+      (λ other. all.each k d below);
+}
+
+pub each_opens_same : {X : Type 0} (state : X → DiskState) (number : ℕ) (disks : List X) → ((x : X) → IsDisk (state x)) → ((e : ℕ) (d : X) → e < length disks → InEveryImage (state (get_or disks e d)) IsClosedFront) → Each state (Opens number) disks disks
+each_opens_same state number disks laws closed = record { many = refl; each = λ e d within. opens_same number (state (get_or disks e d)) (laws (get_or disks e d)) (closed e d within) }
+
+-- what keeps closed gates closed keeps them shut
+pub each_closed : {X : Type 0} (state : X → DiskState) (number : ℕ) (mids news : List X) → ((e : ℕ) (d : X) → e < length mids → InEveryImage (state (get_or mids e d)) IsClosedFront)
+    → Each state (Step IsClosedFront number) mids news → Each state (Step IsShutGraph number) mids news
+each_closed state number mids news closed steps = record {
+  many = steps.many;
+  each = λ e d within. closed_step number (state (get_or mids e d)) (state (get_or news e d)) (closed e d within) (steps.each e d within);
+}
+
+pub each_anything : {X : Type 0} (state : X → DiskState) (P : List ℕ → Type 0) (number : ℕ) (olds news : List X) → Each state (Step P number) olds news → Each state (Step Anything number) olds news
+each_anything state P number olds news steps = record {
+  many = steps.many;
+  each = λ e d within. step_anything P number (state (get_or olds e d)) (state (get_or news e d)) (steps.each e d within);
+}

@@ -1,7 +1,0 @@
-use Rattle.std.proofs.Common.{ℕ}
-use Rattle.store_maker.specs.Steps.{Opens, Opened}
-use Rattle.store_maker.proofs.Every.{DoneBelow}
-use Rattle.store_maker.proofs.each_device.open_all.Given as goal
-
-abbrev pub invariant-loop-e : goal.invariant-loop-e
-invariant-loop-e g l = DoneBelow g.D.Disk.state (Opens l.beat) (λ e old new. Opened old new) l.e l.fn.disks l.disks

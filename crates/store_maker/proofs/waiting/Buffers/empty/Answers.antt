@@ -1,9 +1,0 @@
-use Rattle.std.proofs.Common.{◌∙◌, set, ap}
-use Rattle.store_maker.specs.Waiting.{no_edges}
-use Rattle.store_maker.proofs.Lists.{set_list}
-use Rattle.store_maker.proofs.waiting.Buffers.empty.Goals as goal
-
-pub returns : goal.returns
-returns c =
-    set_list c.self.inside.lists.items c.args.partition c.clear.new.self no_edges c.clear.ensures.items
-    ∙ ap (λ buffers. set buffers c.args.partition no_edges) c.self.view_is
