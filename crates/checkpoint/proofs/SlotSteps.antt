@@ -9,7 +9,7 @@ use Rattle.ports.specs.Stops.{Leaves}
 use Rattle.ports.specs.Told.{AsTold}
 use Rattle.ports.proofs.Parts.{bytes_at-torn, bytes_at-after_write, torn_after_write, torn_byte, length-torn}
 use Rattle.ports.proofs.Stops.{started, by_one, joined, weaker, leaves_now}
-use Rattle.ports.proofs.Told.{settled_from, present_at, sized_at}
+use Rattle.ports.proofs.Told.{as_told_then, settled_from, present_at, sized_at}
 use Rattle.store_model.specs.Slots.{slot_size, slot_start, set_start, device_size, slot_bytes, slot_numbers, slot_values, number_bytes, values_bytes, IsOpen, IsClosed, HoldsRound}
 use Rattle.store_model.proofs.SlotLemmas.{slot_within, slots_lie}
 use Rattle.store_reader.specs.declared.store.SlotHead.{SlotHead}
@@ -290,3 +290,7 @@ holds_now own slot round changed number values mid new mid_law law run opened st
       numbers = while.numbers (opened c image);
       values_are = told_values own slot values mid.bytes c (while.values (opened c image)) stand (mid_law.told while.image while.is_image);
     }
+
+-- the other slot of one call, and then of another
+pub same_other_then : (own slot : ℕ) (x y z : Option (List ℕ)) → AsTold (SameOther own slot) x y → AsTold (SameOther own slot) y z → AsTold (SameOther own slot) x z
+same_other_then own slot x y z = as_told_then (SameOther own slot) (SameOther own slot) (SameOther own slot) (λ a b c first next. next ∙ first) x y z

@@ -78,6 +78,7 @@ pub fn apply_work<P: VertexProgram, D: Disk>(context: &ApplyContext<P, D>, desk:
         (applied_on (P.rules context.now.program.now) context.now.split.now desk.old.engine context.now.round context.now.replicas.now devices before))
         × (desk.new.changed ≡ changed_by context.now.round before (applied_on (P.rules context.now.program.now) context.now.split.now desk.old.engine context.now.round context.now.replicas.now devices before)) }
     ensures settled { desk.new.outcome ≡ Outcome.Done → IsSettled (D.state desk.new.disk) }
+    ensures bytes { AsTold (SameOther (own_in context.now.split.now desk.old.engine) (slot_of context.now.round)) (D.state desk.old.disk).bytes (D.state desk.new.disk).bytes }
     ensures size { (D.state desk.new.disk).size ≡ (D.state desk.old.disk).size }
     ensures beat { (D.state desk.new.disk).beat ≤ context.now.beat.now }
 {
@@ -134,6 +135,7 @@ fn apply_round<P: VertexProgram, D: Disk>(
         (applied_on (P.rules context.now.program.now) context.now.split.now engine context.now.round context.now.replicas.now devices before))
         × (changed ≡ changed_by context.now.round before (applied_on (P.rules context.now.program.now) context.now.split.now engine context.now.round context.now.replicas.now devices before))) }
     ensures settled { OnOk result (IsSettled (D.state disk.new)) }
+    ensures bytes { AsTold (SameOther (own_in context.now.split.now engine) (slot_of context.now.round)) (D.state disk.old).bytes (D.state disk.new).bytes }
     ensures size { (D.state disk.new).size ≡ (D.state disk.old).size }
     ensures beat { (D.state disk.new).beat ≤ context.now.beat.now }
     ensures cause { HasCauseOfTwo (D.state disk.old).faults (D.state disk.new).faults (D.M.faults meter.old) (D.M.faults meter.new) result }

@@ -1,9 +1,9 @@
 -- The lists of an index, with one place more in one of them.
-use Rattle.std.proofs.Common.{◌≡◌, ℕ, ◌+◌, ◌*◌, ◌^◌, ◌<◌, ◌≤◌, List, [], ◌∷◌, ◌++◌, length, map, replicate, get_or, set, sym, ◌∙◌, ap, subst, arith, lit≤, length-append, length-set}
+use Rattle.std.proofs.Common.{◌≡◌, ℕ, ◌+◌, ◌*◌, ◌^◌, ◌<◌, ◌≤◌, List, [], ◌∷◌, ◌++◌, length, map, take, replicate, get_or, set, sym, ◌∙◌, ap, subst, arith, lit≤, length-append, length-set}
 use Rattle.std.specs.Prelude.{Vec}
 use Rattle.std.specs.List.{All}
 use Rattle.std.specs.Global.{Global}
-use Rattle.std.proofs.lemmas.List.{map-append, length-replicate, map-set, set-get_or, get_or-map, replicate_more}
+use Rattle.std.proofs.lemmas.List.{map-append, length-map, length-replicate, take_more_set, map-set, set-get_or, get_or-map, replicate_more}
 use Rattle.std.proofs.lemmas.List.Sums.{sum_by-set, get_or-le-sum_by, sum_by-le}
 use Rattle.std.proofs.lemmas.List.Folds.{sum_by-replicate}
 use Rattle.std.proofs.lemmas.List.Elements.{All-set, All-replicate}
@@ -32,6 +32,21 @@ new_index a are none = record {
   lists = ap length are ∙ length-replicate 512 no_places;
   total = none ∙ sym (ap total_of are ∙ sum_by-replicate place_count 512 no_places);
   few = subst (All (λ (places : List Place). length places ≤ 2 ^ 31)) (sym are) (All-replicate (λ (places : List Place). length places ≤ 2 ^ 31) 512 no_places (lit≤ tt));
+}
+
+-- the lists below a number were emptied
+pub record IsCleared (n : ℕ) (vs : List (Vec Place Global)) : Type 0 where
+  pub many : length vs ≡ 512
+  pub front : take n (items_of vs) ≡ replicate n no_places
+
+pub clear_more : (n : ℕ) (vs : List (Vec Place Global)) (w : Vec Place Global) → n < 512 → w.items ≡ [] → IsCleared n vs → IsCleared (n + 1) (set vs n w)
+clear_more n vs w below empty is = record {
+  many = length-set vs n w ∙ is.many;
+  front = ap (λ l. take (n + 1) l) (map-set (λ (v : Vec Place Global). v.items) vs n w)
+      ∙ (take_more_set (items_of vs) n w.items (omega (arith, below, is.many, length-map vs (λ (v : Vec Place Global). v.items)))
+      ∙ (ap (λ l. l ++ w.items ∷ []) is.front
+      ∙ (ap (λ x. replicate n no_places ++ x ∷ []) empty
+      ∙ replicate_more n no_places)));
 }
 
 -- the list that was lent

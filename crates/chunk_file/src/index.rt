@@ -1,5 +1,5 @@
 //! Where the chunks of each engine and partition stand.
-ghost use Rattle.std.specs.Prelude.{◌≡◌, ℕ, ◌+◌, ◌*◌, ◌^◌, ◌<◌, ◌≤◌, Some, length, replicate, slice_get, IfOk, OnOk, OnErr};
+ghost use Rattle.std.specs.Prelude.{◌≡◌, ℕ, ◌+◌, ◌*◌, ◌^◌, ◌<◌, ◌≤◌, Some, length, map, replicate, slice_get, IfOk, OnOk, OnErr};
 ghost use Rattle.chunk_file.specs.Places.{places_of, total_of, with_place, no_places};
 
 use ports::Memory;
@@ -82,6 +82,14 @@ impl Index {
         self.total
     }
 
+    /// Takes all places out. What memory they had stays for others.
+    pub fn clear(&mut self)
+        ensures { self.new ≡ replicate 512 no_places }
+    {
+        clear_all(&mut self.places);
+        self.total = 0;
+    }
+
     /// Adds a place behind those of its engine and partition. Where there is no memory nothing changes.
     pub fn add(&mut self, engine: u32, partition: u32, place: Place) -> Result<(), Memory>
         requires engine { engine < 8 }
@@ -103,4 +111,14 @@ fn list_of(engine: u32, partition: u32) -> usize
     ensures { result ≡ 64 * engine + partition }
 {
     (PARTITIONS * engine + partition) as usize
+}
+
+/// Empties the lists of all engines and partitions.
+fn clear_all(places: &mut Vec<Vec<Place>>)
+    requires { length places.old.items ≡ 512 }
+    ensures { map (λ v. v.items) places.new.items ≡ replicate 512 no_places }
+{
+    'lists: for list in 0..ENGINES * PARTITIONS {
+        places[list as usize].clear();
+    }
 }

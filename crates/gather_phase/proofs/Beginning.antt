@@ -30,6 +30,7 @@ module _ {D M : Type 0} (state : D → DiskState) (faults : M → ℕ) where
     room = λ job is. y.room job (x.room job is);
     reads = omega (arith, x.reads, y.reads);
     writes = omega (arith, x.writes, y.writes);
+    told = λ bytes is. let half = x.told bytes is in y.told half.0 half.1;
     caused = λ is. ⊎_elim
         (λ middle. ⊎_elim (λ first. inl first) (λ rose. inr (⊎_elim (λ read. inl (rose_later (faults a.meter) (faults b.meter) (faults d.meter) read y.reads)) (λ write. inr (rose_later (state a.spill).faults (state b.spill).faults (state d.spill).faults write y.writes)) rose)) (x.caused middle))
         (λ rose. inr (⊎_elim (λ read. inl (later_rose (faults a.meter) (faults b.meter) (faults d.meter) x.reads read)) (λ write. inr (later_rose (state a.spill).faults (state b.spill).faults (state d.spill).faults x.writes write)) rose))

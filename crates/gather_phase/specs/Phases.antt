@@ -35,17 +35,18 @@ part_of false = Lane
 module _ {D M : Type 0} (state : D → DiskState) where
   -- what is taken from each chunk: its updates, or 1 for each of its edges at the source
   abbrev pub Takes : Bool → Serving D M → (ℕ → ℕ → List Update) → Type 0
-  Takes true serving items = (edges : ℕ → ℕ → List Edge) × HasRecords (edge_layout serving.job.now.format) serving edges × ((cursor t : ℕ) → items cursor t ≡ counts_of (edges cursor t))
-  Takes false serving items = HasRecords update_layout serving items
+  Takes true serving items = (edges : ℕ → ℕ → List Edge) × HasRecords state (edge_layout serving.job.now.format) serving edges × ((cursor t : ℕ) → items cursor t ≡ counts_of (edges cursor t))
+  Takes false serving items = HasRecords state update_layout serving items
 
 module _ {D M : Type 0} (state : D → DiskState) (faults : M → ℕ) where
-  -- how a desk goes on: its worker, split and rooms stay, counts of faults never fall, and a disk fault is answered only where one rose
+  -- how a desk goes on: its worker, split and rooms stay, counts of faults never fall, a spill device that tells its bytes still does, and a disk fault is answered only where a count rose
   pub record GoesOn (old new : GatherDesk D M) : Type 0 where
     pub worker : new.worker ≡ old.worker
     pub split : split_of new.replicas ≡ split_of old.replicas
     pub room : (job : Job) → IsRoom job old.room → IsRoom job new.room
     pub reads : faults old.meter ≤ faults new.meter
     pub writes : (state old.spill).faults ≤ (state new.spill).faults
+    pub told : (bytes : List ℕ) → (state old.spill).bytes ≡ Some bytes → (now : List ℕ) × ((state new.spill).bytes ≡ Some now)
     pub caused : new.outcome ≡ DiskFault → (old.outcome ≡ DiskFault) ⊎ (Rose (faults old.meter) (faults new.meter) ⊎ Rose (state old.spill).faults (state new.spill).faults)
 
 module _ {P D G M : Type 0} (rules : P → Rules) (state : D → DiskState) where

@@ -1,5 +1,5 @@
 //! The work of one worker in a gather phase.
-ghost use Rattle.std.specs.Prelude.{◌≡◌, ◌≢◌, ℕ, ◌≤◌, [], List};
+ghost use Rattle.std.specs.Prelude.{◌≡◌, ◌≢◌, ℕ, ◌≤◌, Some, [], List};
 ghost use Rattle.phase_model.specs.JobTerms.{terms_of};
 ghost use Rattle.worker_duty.specs.Views.{taken_by_seat, MayWork, HasWorked};
 ghost use Rattle.replica_merge.specs.Accumulators.{split_of};
@@ -67,6 +67,7 @@ pub fn gather_work<P: VertexProgram, D: Disk, G: Gate + Sync>(
     ensures replicas { split_of desk.new.replicas ≡ context.now.serving.split.now }
     ensures room { IsRoom context.now.serving.job.now desk.new.room }
     ensures beat { (D.state desk.new.spill).beat ≤ context.now.beat.now }
+    ensures told { (bytes : List ℕ) → (D.state desk.old.spill).bytes ≡ Some bytes → (now : List ℕ) × ((D.state desk.new.spill).bytes ≡ Some now) }
     ensures cause { HasFaultCause D.state D.M.faults desk.old desk.new }
     ensures stopped { desk.new.outcome ≢ Outcome.Done → MayStopBy P.rules D.state context.now desk.new.outcome }
     // Where the worker is through.

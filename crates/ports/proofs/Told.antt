@@ -32,6 +32,10 @@ pub as_told_to : (P : List ℕ → List ℕ → Type 0) (b : List ℕ) (y : Opti
 as_told_to P b (Some c) p = (c, refl, p)
 as_told_to P b None p = absurd p
 
+-- what told its bytes still does
+pub told_on : (P : List ℕ → List ℕ → Type 0) (x y : Option (List ℕ)) → AsTold P x y → (b : List ℕ) → x ≡ Some b → (c : List ℕ) × (y ≡ Some c)
+told_on P x y told b is = let now = as_told_to P b y (subst (λ (z : Option (List ℕ)). AsTold P z y) is told) in (now.0, now.1)
+
 -- what is true of the bytes of a settled disk is true of its images
 pub settled_has : (disk : DiskState) (P : List ℕ → Type 0) → IsSettled disk → IfSome disk.bytes P → InEveryImage disk P
 settled_has disk P settled holds c image = subst (λ (told : Option (List ℕ)). IfSome told P) (settled c image) holds

@@ -11,10 +11,11 @@ goes_on state number old mid new first next = record {
   many = next.many ∙ first.many;
   beats = λ e d below early. next.beats e d (omega (arith, first.many, below)) (first.beats e d below early);
   later = λ e d below. omega (arith, first.later e d below, next.later e d (omega (arith, first.many, below)));
+  told = λ e d bytes below is. let half = first.told e d bytes below is in next.told e d half.0 (omega (arith, first.many, below)) half.1;
 }
 
 pub stays : {X : Type 0} (state : X → DiskState) (number : ℕ) (lanes : List X) → GoOn state number lanes lanes
-stays state number lanes = record { many = refl; beats = λ e d below early. early; later = λ e d below. omega arith }
+stays state number lanes = record { many = refl; beats = λ e d below early. early; later = λ e d below. omega arith; told = λ e d bytes below is. (bytes, is) }
 
 rose_more : (a b c : ℕ) → Rose a b → b ≤ c → Rose a c
 rose_more a b c rose later = omega (arith, rose, later)

@@ -1,15 +1,17 @@
 -- One chunk more on the lanes.
-use Rattle.std.proofs.Common.{◌≡◌, ◌≢◌, ◌⊎◌, inl, inr, ℕ, ◌+◌, ◌*◌, ◌-◌, ◌==◌, ◌<◌, ◌≤◌, ◌^◌, Bool, true, false, cond, Option, Some, None, IfSome, List, [], ◌∷◌, ◌++◌, length, map, take, get_or, set, refl, sym, ◌∙◌, ap, subst, arith, zero-add, append-nil, append_assoc, length-append, length-set}
+use Rattle.std.proofs.Common.{◌≡◌, ◌≢◌, ◌⊎◌, inl, inr, ℕ, ◌+◌, ◌*◌, ◌-◌, ◌==◌, ◌<◌, ◌≤◌, ◌^◌, Bool, true, false, cond, Option, Some, None, IfSome, Result, List, [], ◌∷◌, ◌++◌, length, map, take, get_or, set, refl, sym, ◌∙◌, ap, subst, arith, zero-add, append-nil, append_assoc, length-append, length-set}
 use Rattle.std.specs.List.{enumerate_from, filter, sum_by}
 use Rattle.std.proofs.Math.Seq.{take-append_seam, take-length}
-use Rattle.std.proofs.lemmas.List.{map-append, get_or-set_same, get_or-set_other}
+use Rattle.std.proofs.lemmas.List.{map-append, get_or-set_same, get_or-set_other, get_or_default}
 use Rattle.std.proofs.lemmas.List.Elements.{filter-append}
 use Rattle.std.proofs.lemmas.List.FromFn.{length-enumerate_from}
 use Rattle.std.proofs.lemmas.List.Sums.{sum_by-append}
 use Rattle.std.proofs.lemmas.Bool.{eqb-true, eqb-false, eq-eqb, ne_eqb}
 use Rattle.graph_model.specs.declared.value.Update.{Update}
-use Rattle.ports.specs.Disk.{DiskState}
+use Rattle.ports.specs.Bytes.{Torn}
+use Rattle.ports.specs.Disk.{DiskState, Writes}
 use Rattle.ports.specs.Told.{AsTold}
+use Rattle.ports.proofs.Told.{told_on}
 use Rattle.ports.specs.Sink.{Appends}
 use Rattle.chunk_model.specs.Chunks.{Chunk}
 use Rattle.chunk_model.specs.Layout.{update_layout}
@@ -18,7 +20,7 @@ use Rattle.chunk_model.proofs.ManyChunks.{bytes_of_chunks-more}
 use Rattle.seeded_place.specs.Placing.{Placing, HasPlaced, engine_of, placed, on_engine}
 use Rattle.phase_model.specs.declared.placed.Placed.{Placed}
 use Rattle.phase_model.specs.Shelves.{Shelf, places_of, width_of_chunks}
-use Rattle.update_lanes.specs.Lanes.{HasChunks, AreWritten, HasMade}
+use Rattle.update_lanes.specs.Lanes.{HasChunks, AreWritten, HasMade, GoOn}
 
 -- Numbered lists with one element more.
 pub enumerate-more : {X : Type 0} (first : ℕ) (xs : List X) (x : X) → enumerate_from first (xs ++ x ∷ []) ≡ enumerate_from first xs ++ (first + length xs, x) ∷ []
@@ -117,6 +119,21 @@ at_set_by P xs e k new d within here other false is =
 
 pub at_set : {X : Type 0} (P : ℕ → X → Type 0) (xs : List X) (e k : ℕ) (new d : X) → e < length xs → (k ≡ e → P e new) → (k ≢ e → P k (get_or xs k d)) → P k (get_or (set xs e new) k d)
 at_set P xs e k new d within here other = at_set_by P xs e k new d within here other (k == e) refl
+
+-- lanes of which one was written to go on
+pub lane_goes_on : {X T E : Type 0} (state : X → DiskState) (number at : ℕ) (piece : List ℕ) (lanes : List X) (e : ℕ) (old new : X) {result : Result T E} → e < length lanes → get_or lanes e new ≡ old → Writes number at piece (state old) (state new) result → GoOn state number lanes (set lanes e new)
+lane_goes_on {X} state number at piece lanes e old new within lane writes =
+    let was : (d : X) → get_or lanes e d ≡ old = λ d. get_or_default lanes e d new within ∙ lane in
+    record {
+      many = length-set lanes e new;
+      beats = λ k d below early. at_set (λ j x. (state x).beat ≤ number) lanes e k new d within (λ same. omega (arith, writes.changes.beat)) (λ other. early);
+      later = λ k d below. at_set (λ j x. (state (get_or lanes j d)).faults ≤ (state x).faults) lanes e k new d within
+          (λ same. subst (λ (x : X). (state x).faults ≤ (state new).faults) (sym (was d)) writes.cause.later)
+          (λ other. omega arith);
+      told = λ k d bytes below. at_set (λ j x. (state (get_or lanes j d)).bytes ≡ Some bytes → (now : List ℕ) × ((state x).bytes ≡ Some now)) lanes e k new d within
+          (λ same is. told_on (Torn at (length piece)) (state old).bytes (state new).bytes writes.changes.bytes bytes (ap (λ (x : X). (state x).bytes) (sym (was d)) ∙ is))
+          (λ other is. (bytes, is));
+    }
 
 -- **One chunk more was written.**
 pub made_more : {X : Type 0} (state : X → DiskState) (seed stream engines : ℕ) (placer after : Placing) (lanes : List X) (places noted : List Placed) (made : List (Chunk Update)) (c : Chunk Update) (e at : ℕ) (new : X)

@@ -1,5 +1,5 @@
 -- What a worker's lanes hold, and what calls make of them.
-use Rattle.std.specs.Prelude.{◌≡◌, ℕ, ◌+◌, ◌*◌, ◌==◌, ◌<◌, ◌≤◌, List, [], ◌∷◌, ◌++◌, length, slice_index_or, count_by, IfSome}
+use Rattle.std.specs.Prelude.{◌≡◌, ℕ, ◌+◌, ◌*◌, ◌==◌, ◌<◌, ◌≤◌, List, [], ◌∷◌, ◌++◌, length, slice_index_or, count_by, Some, IfSome}
 use Rattle.std.specs.List.{All}
 use Rattle.graph_model.specs.declared.value.Update.{Update}
 use Rattle.ports.specs.Disk.{DiskState}
@@ -37,11 +37,12 @@ pub record AreReady {X : Type 0} (state : X → DiskState) (engines number count
   pub sizes : (e : ℕ) (d : X) → e < length lanes → (state (slice_index_or lanes e d)).size ≤ MOST_BYTES * count
 
 -- Calls of the lanes under a beat of this number, whatever they answer: no lane is lost, its last call is of that beat
--- or an earlier one, and its count of faults does not fall.
+-- or an earlier one, its count of faults does not fall, and one that tells its bytes still does.
 pub record GoOn {X : Type 0} (state : X → DiskState) (number : ℕ) (old new : List X) : Type 0 where
   pub many : length new ≡ length old
   pub beats : (e : ℕ) (d : X) → e < length old → (state (slice_index_or old e d)).beat ≤ number → (state (slice_index_or new e d)).beat ≤ number
   pub later : (e : ℕ) (d : X) → e < length old → (state (slice_index_or old e d)).faults ≤ (state (slice_index_or new e d)).faults
+  pub told : (e : ℕ) (d : X) (bytes : List ℕ) → e < length old → (state (slice_index_or old e d)).bytes ≡ Some bytes → (now : List ℕ) × ((state (slice_index_or new e d)).bytes ≡ Some now)
 
 -- the count of faults of one of them rose
 abbrev pub OneRose : {X : Type 0} → (X → DiskState) → (old new : List X) → Type 0

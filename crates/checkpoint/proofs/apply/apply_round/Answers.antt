@@ -12,7 +12,7 @@ use Rattle.store_model.specs.Slots.{slot_of}
 use Rattle.checkpoint.specs.Applied.{sums_in, applied_on, changed_by}
 use Rattle.checkpoint.specs.SlotStates.{SameOther}
 use Rattle.checkpoint.specs.Storing.{WhileStoring}
-use Rattle.checkpoint.proofs.SlotSteps.{closing_on, keeps_other, not_yet, storing_on, other_while_storing, holds_now}
+use Rattle.checkpoint.proofs.SlotSteps.{closing_on, keeps_other, not_yet, storing_on, other_while_storing, holds_now, same_other_then}
 use Rattle.checkpoint.proofs.Partwise.{round_stands}
 use Rattle.checkpoint.proofs.apply.apply_round.Goals as goal
 
@@ -140,3 +140,35 @@ returns-clause-stored g c = λ devices read before told_devices told_read stands
           both.0,
       both.1,
     )
+
+pub returns-in_err-changed-clause-bytes : goal.returns-in_err-changed-clause-bytes
+returns-in_err-changed-clause-bytes g c =
+    let context = c.args.context.now in
+    let own : ℕ = own_in context.split.now c.args.engine in
+    let slot : ℕ = slot_of context.round in
+    let start : DiskState = g.D.Disk.state c.args.disk.now in
+    let closed : DiskState = g.D.Disk.state c.close_slot.new.disk in
+    let mid : DiskState = g.D.Disk.state c.write_partitions.new.disk in
+    same_other_then own slot start.bytes closed.bytes mid.bytes c.close_slot.ensures.bytes c.write_partitions.ensures.bytes
+
+pub returns-in_err-open_slot-clause-bytes : goal.returns-in_err-open_slot-clause-bytes
+returns-in_err-open_slot-clause-bytes g c =
+    let context = c.args.context.now in
+    let own : ℕ = own_in context.split.now c.args.engine in
+    let slot : ℕ = slot_of context.round in
+    let start : DiskState = g.D.Disk.state c.args.disk.now in
+    let closed : DiskState = g.D.Disk.state c.close_slot.new.disk in
+    let mid : DiskState = g.D.Disk.state c.write_partitions.new.disk in
+    let new : DiskState = g.D.Disk.state c.open_slot.new.disk in
+    same_other_then own slot start.bytes closed.bytes new.bytes c.close_slot.ensures.bytes (same_other_then own slot closed.bytes mid.bytes new.bytes c.write_partitions.ensures.bytes c.open_slot.ensures.bytes)
+
+pub returns-clause-bytes : goal.returns-clause-bytes
+returns-clause-bytes g c =
+    let context = c.args.context.now in
+    let own : ℕ = own_in context.split.now c.args.engine in
+    let slot : ℕ = slot_of context.round in
+    let start : DiskState = g.D.Disk.state c.args.disk.now in
+    let closed : DiskState = g.D.Disk.state c.close_slot.new.disk in
+    let mid : DiskState = g.D.Disk.state c.write_partitions.new.disk in
+    let new : DiskState = g.D.Disk.state c.open_slot.new.disk in
+    same_other_then own slot start.bytes closed.bytes new.bytes c.close_slot.ensures.bytes (same_other_then own slot closed.bytes mid.bytes new.bytes c.write_partitions.ensures.bytes c.open_slot.ensures.bytes)

@@ -1,5 +1,6 @@
 use Rattle.std.proofs.Common.{◌≡◌, ◌+◌, ◌*◌, ◌<◌, length, inl, inr, refl, ap, ◌∙◌, subst, arith}
 use Rattle.ports.specs.Told.{AsTold}
+use Rattle.ports.proofs.Told.{told_on}
 use Rattle.replica_merge.specs.Accumulators.{sums_of, len_of, accumulators_of, KeepsOthers}
 use Rattle.replica_merge.proofs.NumberLemmas.{length-bytes_of_numbers}
 use Rattle.gather_phase.specs.Phases.{Takes, adding_of}
@@ -11,7 +12,7 @@ use Rattle.gather_phase.proofs.acts.leave_partition.Goals as goal
 
 pub returns-in_default : goal.returns-in_default
 returns-in_default g c = record {
-  goes_on = record { worker = refl; split = refl; room = λ job is. is; reads = omega arith; writes = omega arith; caused = λ is. inl is };
+  goes_on = record { worker = refl; split = refl; room = λ job is. is; reads = omega arith; writes = omega arith; told = λ bytes is. (bytes, is); caused = λ is. inl is };
   hold_is = refl;
   at_rest = λ e. record {
     at = left_idle _ _ _ _ _ _ _ _ _ _ _ c.args.partition c.in_default.is c.requires.may.at.at;
@@ -40,6 +41,7 @@ returns-in-Ok g c =
         room = λ job is. record { updates = is.updates; edges = is.edges; bytes = c.in-Ok.ensures.room ∙ is.bytes };
         reads = omega arith;
         writes = device.cause.later;
+        told = told_on _ _ _ device.bytes;
         caused = λ is. inl is;
       };
       hold_is = refl;
@@ -64,6 +66,7 @@ returns-in-Err g c =
         room = λ job is. record { updates = is.updates; edges = is.edges; bytes = c.in-Err.ensures.room ∙ is.bytes };
         reads = omega arith;
         writes = device.cause.later;
+        told = told_on _ _ _ device.bytes;
         caused = λ is. inr (inr device.cause.failed);
       };
       hold_is = refl;

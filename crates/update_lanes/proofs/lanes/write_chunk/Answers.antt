@@ -1,6 +1,7 @@
 -- The chunk is one more than those before, which are fewer than a placer has words.
 use Rattle.std.proofs.Common.{get_or, subst, ◌≡◌, ℕ, ◌+◌, ◌<◌, ◌≤◌, ◌^◌, rules, arith, length, sym, ◌∙◌, ap, refl}
 use Rattle.std.proofs.lemmas.List.{get_or_default}
+use Rattle.ports.specs.Disk.{Writes}
 use Rattle.ports.specs.Told.{AsTold}
 use Rattle.ports.specs.Sink.{Appends}
 use Rattle.chunk_model.specs.Chunks.{Chunk}
@@ -8,7 +9,7 @@ use Rattle.chunk_model.specs.Layout.{update_layout}
 use Rattle.chunk_model.specs.ChunkBytes.{chunk_bytes}
 use Rattle.graph_model.specs.declared.value.Update.{Update}
 use Rattle.seeded_place.specs.Placing.{placed}
-use Rattle.update_lanes.proofs.Written.{made_more, length-places_of, length-placed}
+use Rattle.update_lanes.proofs.Written.{lane_goes_on, made_more, length-places_of, length-placed}
 use Rattle.update_lanes.proofs.lanes.write_chunk.Goals as goal
 
 pub returns-clause-made : goal.returns-clause-made
@@ -21,3 +22,15 @@ returns-clause-made g c = λ seed stream engines made has.
     let lane = get_or_default c.args.lanes.now c.next-engine.result c.append_chunk.new.disk c.index-lanes-engine.result within in
     let told = subst (λ x. AsTold (Appends (chunk_bytes update_layout c.args.partition c.args.records.now)) (g.D.Disk.state x).bytes (g.D.Disk.state c.append_chunk.new.disk).bytes) (sym lane) c.in_ok-at.ensures.appended in
     made_more g.D.Disk.state seed stream engines c.args.placer.now c.next-engine.new.self c.args.lanes.now c.args.places.now.items c.push_reserved.new.self.items made chunk c.next-engine.result c.in_ok-at.at c.append_chunk.new.disk has next.0 next.1 (search rules) (search rules) (search rules) told (search rules)
+
+pub returns-in_err-at-clause-lanes : goal.returns-in_err-at-clause-lanes
+returns-in_err-at-clause-lanes g c =
+    let within : c.next-engine.result < length c.args.lanes.now = search rules in
+    let lane = get_or_default c.args.lanes.now c.next-engine.result c.append_chunk.new.disk c.index-lanes-engine.result within in
+    lane_goes_on g.D.Disk.state c.args.beat.now _ _ c.args.lanes.now c.next-engine.result _ c.append_chunk.new.disk within lane c.in_err-at.ensures.writes
+
+pub returns-clause-lanes : goal.returns-clause-lanes
+returns-clause-lanes g c =
+    let within : c.next-engine.result < length c.args.lanes.now = search rules in
+    let lane = get_or_default c.args.lanes.now c.next-engine.result c.append_chunk.new.disk c.index-lanes-engine.result within in
+    lane_goes_on g.D.Disk.state c.args.beat.now _ _ c.args.lanes.now c.next-engine.result _ c.append_chunk.new.disk within lane c.in_ok-at.ensures.writes

@@ -1,7 +1,7 @@
 -- Each partition's step, and what the steps so far come to where one of them fails and at the end.
 use Rattle.std.proofs.Common.{◌≡◌, ℕ, ◌+◌, ◌<◌, ◌≤◌, length, get_or, rules, refl, sym, ◌∙◌, ap, subst, arith}
 use Rattle.update_lanes.specs.Lanes.{HasFlushed}
-use Rattle.update_lanes.proofs.GoingOn.{rose_since, err_cause}
+use Rattle.update_lanes.proofs.GoingOn.{goes_on, rose_since, err_cause}
 use Rattle.update_lanes.proofs.Flushing.{flushing_skip, flushing_one, flushed_few}
 use Rattle.update_lanes.proofs.outgoing.flush_rest.Goals as goal
 
@@ -34,3 +34,6 @@ returns-in_err-flush_one-clause-cause g c =
 
 pub returns-clause-few : goal.returns-clause-few
 returns-clause-few g c = flushed_few g.D.Disk.state c.args.beat.now c.partitions.partition c.args.out.now c.partitions.out c.args.lanes.now c.partitions.lanes c.args.places.now.items c.partitions.places.items c.partitions.invariant
+
+pub returns-in_err-flush_one-clause-lanes : goal.returns-in_err-flush_one-clause-lanes
+returns-in_err-flush_one-clause-lanes g c = goes_on g.D.Disk.state c.args.beat.now c.args.lanes.now c.partitions.lanes c.flush_one.new.lanes c.partitions.invariant.go_on c.flush_one.ensures.lanes
