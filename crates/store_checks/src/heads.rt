@@ -12,8 +12,8 @@ use crate::RecoverFault;
 use crate::fields::{HEAD_SIZE, bad_field, job_of, other_field};
 use graph_model::Job;
 use ports::{Disk, Failed};
-use store_reader::Part;
 use store_model::FIELDS;
+use store_reader::Part;
 
 /// The job of a store by the heads of its graph devices: each is well formed, they agree, and there are as many as they
 /// say.

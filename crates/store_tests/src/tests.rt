@@ -11,8 +11,8 @@ use ports::{Beat, Disk};
 use std::alloc::Global;
 use std::process::Abort;
 use std::test::*;
-use store_reader::Store;
 use storage_engine::{PrepareFault, prepare};
+use store_reader::Store;
 
 /// The bytes of the whole graph device.
 const WHOLE: u64 = 121;
