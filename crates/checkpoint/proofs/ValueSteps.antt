@@ -11,7 +11,8 @@ use Rattle.graph_model.specs.Programs.{Rules}
 use Rattle.partitioner.proofs.Ranges.{range_with_len-append}
 use Rattle.partitioner.specs.declared.split.Split.{Split}
 use Rattle.store_model.specs.Slots.{value_bytes, values_bytes}
-use Rattle.checkpoint.specs.Applied.{start_each, next_each, changes, differs, values_in, changed_by, AreValues}
+use Rattle.gather_laws.specs.Laws.{HaveRoom}
+use Rattle.checkpoint.specs.Applied.{start_each, next_each, changes, differs, values_in, changed_by}
 use Rattle.checkpoint.proofs.ByteLemmas.{length-value_bytes}
 
 start_each-append : (rules : Rules) (vs ws ss ts : List ℕ) → length vs ≡ length ss → start_each rules (vs ++ ws) (ss ++ ts) ≡ start_each rules vs ss ++ start_each rules ws ts
@@ -93,7 +94,7 @@ module _ (a b : Value) (fits_a : (a.main < 2 ^ 64) × (a.side < 2 ^ 64)) (fits_b
       λ i. record { main = main i; side = side i }
 
 -- and values by theirs
-pub same_values_bytes : (xs ys : List Value) → AreValues xs → AreValues ys → length xs ≡ length ys → values_bytes xs ≡ values_bytes ys → xs ≡ ys
+pub same_values_bytes : (xs ys : List Value) → HaveRoom xs → HaveRoom ys → length xs ≡ length ys → values_bytes xs ≡ values_bytes ys → xs ≡ ys
 same_values_bytes [] [] fit_x fit_y long same = refl
 same_values_bytes (x ∷ xs) (y ∷ ys) fit_x fit_y long same =
     let Fits : Value → Type 0 = λ (v : Value). (v.main < 2 ^ 64) × (v.side < 2 ^ 64) in
@@ -111,7 +112,7 @@ told_is x read P told holds = subst (λ (y : Option (List ℕ)). IfSome y P) tol
 
 -- the next values of those that a read gave
 pub next_made : (rules : Rules) (split : Split) (round p changed : ℕ) (sums : List ℕ) (x : Option (List ℕ)) (read bytes : List ℕ) (before into new : List Value) → 1 ≤ round →
-    x ≡ Some read → AreValues before → AreValues into → length before ≡ length into → values_bytes before ≡ bytes → values_bytes into ≡ bytes →
+    x ≡ Some read → HaveRoom before → HaveRoom into → length before ≡ length into → values_bytes before ≡ bytes → values_bytes into ≡ bytes →
     new ≡ next_each rules into sums → changed ≡ changes into new →
     (new ≡ values_in rules split round sums p before) × (changed ≡ changed_by round before new)
 next_made rules split zero p changed sums x read bytes before into new later told fit fit_into long stands reads is counted = absurd (omega arith)

@@ -1,6 +1,6 @@
 -- The values that apply makes of the accumulators of all workers.
-use Rattle.std.specs.Prelude.{ℕ, ◌+◌, ◌^◌, ◌<◌, zero, suc, Bool, not, ◌==◌, ◌&&◌, if◌then◌else◌, List, [], ◌∷◌, ◌++◌, length, map, take, drop}
-use Rattle.std.specs.List.{All, range_with_len}
+use Rattle.std.specs.Prelude.{ℕ, ◌+◌, zero, suc, Bool, not, ◌==◌, ◌&&◌, if◌then◌else◌, List, [], ◌∷◌, ◌++◌, length, map, take, drop}
+use Rattle.std.specs.List.{range_with_len}
 use Rattle.graph_model.specs.declared.value.Value.{Value}
 use Rattle.graph_model.specs.Partitions.{vertices_in, parts_of_master}
 use Rattle.graph_model.specs.Programs.{Rules}
@@ -57,7 +57,3 @@ changes [] values = 0
 abbrev pub changed_by : (round : ℕ) → (before now : List Value) → ℕ
 changed_by zero before now = length now
 changed_by (suc round) before now = changes before now
-
--- the numbers of each value are below 2^64
-abbrev pub AreValues : List Value → Type 0
-AreValues values = All (λ (x : Value). (x.main < 2 ^ 64) × (x.side < 2 ^ 64)) values

@@ -10,7 +10,8 @@ use Rattle.store_model.specs.Slots.{slot_bytes, slot_start, slot_values, set_sta
 use Rattle.store_reader.specs.Reading.{own_in, master_in, len_in, before_in}
 use Rattle.store_reader.specs.declared.store.Outcome.{Outcome}
 use Rattle.store_reader.specs.declared.store.Outcome.TheVariants.{Done, DiskFault}
-use Rattle.checkpoint.specs.Applied.{applied, values_in, changed_by, AreValues}
+use Rattle.gather_laws.specs.Laws.{HaveRoom}
+use Rattle.checkpoint.specs.Applied.{applied, values_in, changed_by}
 use Rattle.checkpoint.specs.SlotStates.{SameOther}
 
 -- Bytes that are an image of the start in the other slot.
@@ -34,19 +35,19 @@ pub record EndsByCause (outcome : Outcome) (disk_before disk_now meter_before me
 
 -- the values before of a partition stand in a slot, where the round is not the first
 pub record StandBefore (split : Split) (partition slot round : ℕ) (before : List Value) (read : List ℕ) : Type 0 where
-  pub fit : AreValues before
+  pub fit : HaveRoom before
   pub long : length before ≡ len_in split partition
   pub stand : 1 ≤ round → values_bytes before ≡ set_bytes (own_in split (master_in split partition)) slot (before_in split partition) (len_in split partition) read
 
 -- the values before of an engine stand in a slot
 pub record EngineStandsBefore (split : Split) (engine slot : ℕ) (before : List Value) (read : List ℕ) : Type 0 where
-  pub fit : AreValues before
+  pub fit : HaveRoom before
   pub long : length before ≡ own_in split engine
   pub stand : values_bytes before ≡ slot_values (own_in split engine) slot read
 
 -- the same, where the round is not the first
 pub record EngineBefore (split : Split) (engine slot round : ℕ) (before : List Value) (read : List ℕ) : Type 0 where
-  pub fit : AreValues before
+  pub fit : HaveRoom before
   pub long : length before ≡ own_in split engine
   pub stand : 1 ≤ round → values_bytes before ≡ slot_values (own_in split engine) slot read
 

@@ -12,7 +12,8 @@ ghost use Rattle.store_reader.specs.Reading.{own_in, master_in, len_in, before_i
 ghost use Rattle.store_model.specs.Slots.{device_size, slot_of, slot_start, slot_values, set_bytes, values_bytes, IsClosed, HoldsRound};
 ghost use Rattle.checkpoint.specs.declared.room.ApplyRoom.{ApplyRoom};
 ghost use Rattle.replica_merge.specs.declared.replicas.Replicas.{Replicas};
-ghost use Rattle.checkpoint.specs.Applied.{sums_in, values_in, applied, applied_on, changed_by, AreValues};
+ghost use Rattle.gather_laws.specs.Laws.{HaveRoom};
+ghost use Rattle.checkpoint.specs.Applied.{sums_in, values_in, applied, applied_on, changed_by};
 ghost use Rattle.checkpoint.specs.Room.{IsRoomOf};
 ghost use Rattle.checkpoint.specs.Storing.{KeepsOther, WhileStoring, EndsByCause, StandBefore, EngineStandsBefore, EngineBefore, StoresPartition, StoresFront};
 ghost use Rattle.checkpoint.specs.SlotStates.{HasExactSize, SameOther, WhileClosing, WhileWriting};
@@ -42,6 +43,7 @@ pub struct ApplyContext<'a, P: VertexProgram, D: Disk> {
 }
 
 /// What an engine owns in apply: its values device, and the meter and buffers for it.
+#[derive(Drop)]
 pub struct ApplyDesk<D: Disk> {
     pub engine: u32,
     pub meter: D::M,

@@ -1,7 +1,8 @@
 // The values of a round, vertex by vertex.
 ghost use Rattle.std.specs.Prelude.{◌≡◌, ◌+◌, ◌^◌, ◌<◌, ◌≤◌, if◌then◌else◌, length};
 ghost use Rattle.std.specs.List.{range_with_len};
-ghost use Rattle.checkpoint.specs.Applied.{start_each, next_each, changes, differs, AreValues};
+ghost use Rattle.gather_laws.specs.Laws.{HaveRoom};
+ghost use Rattle.checkpoint.specs.Applied.{start_each, next_each, changes, differs};
 
 use gather_laws::VertexProgram;
 use graph_model::Value;
@@ -37,7 +38,7 @@ pub(crate) fn next_values<P: VertexProgram>(program: &P, sums: &[u64], values: &
     ensures values { values.new ≡ next_each (P.rules program.now) values.old sums.now }
     ensures changed { result ≡ changes values.old values.new }
     ensures few { result ≤ length sums.now }
-    ensures fit { AreValues values.old }
+    ensures fit { HaveRoom values.old }
 {
     let mut changed = 0;
     for index in 0..sums.len() {

@@ -1,3 +1,4 @@
 pub mod AbsorbLemmas
 pub mod MergeLemmas
+pub mod RoomLemmas
 pub mod SplitLemmas

@@ -1,6 +1,6 @@
 -- The laws that a program's rules meet, and lists of sums that are cut into pieces.
 use Rattle.std.specs.Prelude.{◌≡◌, ℕ, ◌<◌, ◌≤◌, ◌^◌, ◌⊎◌, List, map, flat_map, true, false, Some, slice_index_or}
-use Rattle.std.specs.List.{range_with_len}
+use Rattle.std.specs.List.{All, range_with_len}
 use Rattle.std.specs.List.Sorted.{IsPermutation}
 use Rattle.graph_model.specs.declared.value.Value.{Value}
 use Rattle.graph_model.specs.Programs.{Rules, NONE, CAP, plus}
@@ -40,8 +40,15 @@ pub record GatherLaws (rules : Rules) (IsSum : ℕ → Type 0) : Type 0 where
   pub start_is_sum : (v out : ℕ) → v < 2 ^ 32 → IsSum (rules.start v out).main
   pub send_is_sum : (value : Value) (weight s : ℕ) → IsSum value.main → rules.send value weight ≡ Some s → IsSum s
   pub next_is_sum : (value : Value) (sum : ℕ) → IsSum value.main → IsSum sum → IsSum (rules.next value sum).main
+  -- the second number of a value has room in 64 bits
+  pub start_fits : (v out : ℕ) → v < 2 ^ 32 → out < 2 ^ 64 → (rules.start v out).side < 2 ^ 64
+  pub next_fits : (value : Value) (sum : ℕ) → value.side < 2 ^ 64 → (rules.next value sum).side < 2 ^ 64
   pub counting : CountLaws rules
   pub absorbing : rules.absorbs ≡ true → Absorbs rules IsSum
+
+-- both numbers of each value have room in 64 bits
+abbrev pub HaveRoom : List Value → Type 0
+HaveRoom values = All (λ (x : Value). (x.main < 2 ^ 64) × (x.side < 2 ^ 64)) values
 
 -- the merge of the merges of pieces
 abbrev pub merged_pieces : Rules → List (List ℕ) → ℕ

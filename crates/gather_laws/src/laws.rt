@@ -2,7 +2,7 @@ ghost use Rattle.std.specs.Prelude.{◌≡◌, ℕ, ◌≤◌, ◌-◌, ◌^◌,
 ghost use Rattle.std.specs.List.Sorted.{IsPermutation};
 ghost use Rattle.graph_model.specs.declared.edge.Edge.{Edge};
 ghost use Rattle.graph_model.specs.Rounds.{IsWithinGraph, merged, next_by_changed, values};
-ghost use Rattle.gather_laws.specs.Laws.{SplitsPlaces, items_at, merged_pieces};
+ghost use Rattle.gather_laws.specs.Laws.{HaveRoom, SplitsPlaces, items_at, merged_pieces};
 
 use crate::VertexProgram;
 
@@ -29,4 +29,9 @@ pub fn rounds_by_changed<P: VertexProgram>(program: &P)
         ≡ next_by_changed (P.rules program.now) vertices edges
         (values (P.rules program.now) vertices edges (round - 2))
         (values (P.rules program.now) vertices edges (round - 1)) }
+{}
+
+/// Both numbers of each value of each round have room in 64 bits.
+pub fn values_have_room<P: VertexProgram>(program: &P)
+    ensures { (vertices round : ℕ) (edges : List Edge) → vertices ≤ 2 ^ 32 → IsWithinGraph vertices edges → HaveRoom (values (P.rules program.now) vertices edges round) }
 {}

@@ -11,6 +11,6 @@ mod numbers;
 mod program;
 
 pub use graph_model::Value;
-pub use laws::{rounds_by_changed, sums_of_pieces};
+pub use laws::{rounds_by_changed, sums_of_pieces, values_have_room};
 pub use numbers::{CAP, NONE, plus};
 pub use program::VertexProgram;

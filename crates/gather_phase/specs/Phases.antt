@@ -1,19 +1,12 @@
 -- What a gather phase says of the desks of its workers.
-use Rattle.std.specs.Prelude.{◌≡◌, ◌⊎◌, ℕ, ◌≤◌, ◌<◌, Bool, true, false, if◌then◌else◌, Some, List, length, slice_index_or}
+use Rattle.std.specs.Prelude.{◌≡◌, ◌⊎◌, ℕ, ◌≤◌, Bool, true, false, if◌then◌else◌, Some, List}
 use Rattle.graph_model.specs.declared.edge.Edge.{Edge}
 use Rattle.graph_model.specs.declared.value.Update.{Update}
 use Rattle.graph_model.specs.declared.job.Job.{Job}
 use Rattle.graph_model.specs.Programs.{Rules, plus}
-use Rattle.graph_model.specs.Jobs.{IsWellFormedJob}
 use Rattle.ports.specs.Disk.{DiskState}
 use Rattle.ports.specs.Faults.{Rose}
-use Rattle.partitioner.specs.Splits.{IsSplit, IsSplitOf}
-use Rattle.chunk_object.specs.Epochs.{cursor_of}
-use Rattle.chunk_object.specs.History.{most_chunks}
-use Rattle.chunk_model.specs.Layout.{Layout, edge_layout, update_layout}
-use Rattle.chunk_file.specs.declared.index.Place.{Place}
-use Rattle.chunk_file.specs.Places.{places_of, no_places}
-use Rattle.chunk_file.specs.Chunks.{IsChunkIn}
+use Rattle.chunk_model.specs.Layout.{edge_layout, update_layout}
 use Rattle.store_reader.specs.declared.store.Outcome.{Outcome}
 use Rattle.store_reader.specs.declared.store.Outcome.TheVariants.{Done, DiskFault, Damaged, Memory}
 use Rattle.store_reader.specs.declared.store.Part.{Part}

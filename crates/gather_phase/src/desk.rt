@@ -16,6 +16,7 @@ const HEAD_WIDTH: usize = 8;
 const RECORD_WIDTH: usize = 16;
 
 /// What is lent to all workers of a phase.
+#[derive(Drop)]
 pub struct GatherContext<'a, P: VertexProgram, D: Disk, G: Gate> {
     pub program: &'a P,
     /// The chunks: of edges where they are counted, else of updates.

@@ -64,6 +64,7 @@ pub fn gather_work<P: VertexProgram, D: Disk, G: Gate + Sync>(
     ensures table { desk.new.seat.table ≡ desk.old.seat.table }
     ensures worker { desk.new.worker ≡ desk.old.worker }
     ensures duty { HasWorked (terms_of context.now.serving.job.now) desk.old.worker (desk.new.outcome ≡ Outcome.Done) desk.old.seat.view desk.new.seat.view desk.new.claims desk.new.admitted }
+    ensures few { (desk.new.claims ≤ 2199023255552) × (desk.new.admitted ≤ 64) }
     ensures replicas { split_of desk.new.replicas ≡ context.now.serving.split.now }
     ensures room { IsRoom context.now.serving.job.now desk.new.room }
     ensures beat { (D.state desk.new.spill).beat ≤ context.now.beat.now }

@@ -45,16 +45,18 @@ least_absorbs first send value s t u _ _ _ _ =
     ap with_side same
 
 least_laws : (first : ℕ → Value) (send : Value → ℕ → Option ℕ) →
-    ((v : ℕ) → v < 2 ^ 32 → IsCappedOrNone (first v).main) →
+    ((v : ℕ) → v < 2 ^ 32 → IsCappedOrNone (first v).main) → ((v : ℕ) → (first v).side ≡ 0) →
     ((value : Value) (weight s : ℕ) → IsCappedOrNone value.main → send value weight ≡ Some s → IsCappedOrNone s) →
     GatherLaws (least_rules first send) IsCappedOrNone
-least_laws first send starts sends = record {
+least_laws first send starts plain sends = record {
   bounded = λ s is_sum. is_sum;
   merging = min_laws;
   folding = λ s u _ _. refl;
   start_is_sum = λ v out below. starts v below;
   send_is_sum = sends;
   next_is_sum = λ value sum value_is sum_is. min_is_sum value.main sum value_is sum_is;
+  start_fits = λ v out _ _. omega (arith, plain v);
+  next_fits = λ value sum fits. fits;
   counting = record { adds = λ e. cc; from_zero = λ e. cc; ignores = λ _ v out other. refl };
   absorbing = λ _. least_absorbs first send;
 }
@@ -73,13 +75,13 @@ further_is_sum value step s = elim (value.main == NONE) as
     ]
 
 pub bfs_laws : (root : ℕ) → GatherLaws (bfs root) IsCappedOrNone
-bfs_laws root = least_laws (λ v. from_root root v 0) (λ value weight. send_further value 1) (root_is_sum root)
+bfs_laws root = least_laws (λ v. from_root root v 0) (λ value weight. send_further value 1) (root_is_sum root) (λ v. refl)
     (λ value weight s _ sent. further_is_sum value 1 s sent)
 
 pub labels_laws : GatherLaws labels IsCappedOrNone
-labels_laws = least_laws (λ v. record { main = v; side = 0 }) (λ value weight. Some value.main) (λ v below. inl (omega arith))
+labels_laws = least_laws (λ v. record { main = v; side = 0 }) (λ value weight. Some value.main) (λ v below. inl (omega arith)) (λ v. refl)
     (λ value weight s value_is sent. let same : value.main ≡ s = cc in subst IsCappedOrNone same value_is)
 
 pub sssp_laws : (root : ℕ) → GatherLaws (sssp root) IsCappedOrNone
-sssp_laws root = least_laws (λ v. from_root root v 0) send_further (root_is_sum root)
+sssp_laws root = least_laws (λ v. from_root root v 0) send_further (root_is_sum root) (λ v. refl)
     (λ value weight s _ sent. further_is_sum value weight s sent)

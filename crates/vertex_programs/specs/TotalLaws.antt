@@ -23,6 +23,8 @@ degrees_laws = record {
   start_is_sum = λ v out _. omega arith;
   send_is_sum = λ value weight s _ sent. let one : 1 ≡ s = cc in omega arith;
   next_is_sum = λ value sum _ capped. capped;
+  start_fits = λ v out _ fits. fits;
+  next_fits = λ value sum fits. fits;
   counting = record { adds = λ _ a b. refl; from_zero = λ _. refl; ignores = λ e. absurd cc };
   absorbing = λ e. absurd cc;
 }
@@ -44,6 +46,8 @@ pagerank_laws rounds = record {
   start_is_sum = λ v out _. omega arith;
   send_is_sum = λ value weight s capped sent. share_is_sum value s capped sent;
   next_is_sum = λ value sum _ capped. omega arith;
+  start_fits = λ v out _ fits. fits;
+  next_fits = λ value sum fits. fits;
   counting = record { adds = λ _ a b. refl; from_zero = λ _. refl; ignores = λ e. absurd cc };
   absorbing = λ e. absurd cc;
 }

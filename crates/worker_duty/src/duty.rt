@@ -28,6 +28,7 @@ pub fn work<
     ensures follows { P.follows context.now desk.old desk.new }
     ensures table { (P.hold desk.new).table ≡ (P.hold desk.old).table }
     ensures worked { HasWorked (P.terms context.now) share.worker (result.is_through ≡ true) (P.hold desk.old).view (P.hold desk.new).view result.claims result.admitted }
+    ensures few { (result.claims ≤ 2199023255552) × (result.admitted ≤ 64) }
     ensures rests { result.is_through ≡ true → P.rests context.now desk.new (taken_by_seat (P.hold desk.new).view) }
     ensures stops { result.is_through ≡ false → P.stops context.now desk.new (taken_by_seat (P.hold desk.new).view) }
 {
