@@ -214,7 +214,7 @@ module _ (rules : Rules) (split : Split) (round : ℕ) where
     -- before any partition
     pub begun : (engine : ℕ) → IsDisk start → HasExactSize (own_in split engine) start → InEveryImage start (IsClosed (own_in split engine) slot) → SoFar engine 0 0 start
     begun engine law exact closed = record {
-      any_moment = started number start (WhileClosing (own_in split engine) slot start) law (λ c image. record { image = c; is_image = image; other = refl; itself = inl refl });
+      any_moment = started number start (WhileClosing (own_in split engine) slot start) law (λ c image. record { image = c; is_image = image; long = refl; other = refl; itself = inl refl });
       closed = closed;
       exact = exact;
       bytes = as_told_same (SameOther (own_in split engine) slot) (λ a. refl) start.bytes;

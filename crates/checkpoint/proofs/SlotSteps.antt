@@ -64,12 +64,12 @@ module _ (own slot : ℕ) (small : slot < 2) where
   pub as_at_start : (start synced : DiskState) → InEveryImage synced (After Same start) → InEveryImage synced (WhileClosing own slot start)
   as_at_start start synced images c image =
       let before : After Same start c = images c image in
-      record { image = c; is_image = subst start.images (sym before.2) before.1; other = refl; itself = inl refl }
+      record { image = c; is_image = subst start.images (sym before.2) before.1; long = refl; other = refl; itself = inl refl }
 
   pub synced_run : (number : ℕ) (start synced : DiskState) → IsDisk start → Changes number Same start synced → Leaves number start synced (WhileClosing own slot start)
   synced_run number start synced law changes =
       by_one number start synced Same (WhileClosing own slot start) law changes
-      (λ c image. record { image = c; is_image = image; other = refl; itself = inl refl })
+      (λ c image. record { image = c; is_image = image; long = refl; other = refl; itself = inl refl })
       (as_at_start start synced changes.images)
 
   -- closing an open gate
@@ -77,6 +77,7 @@ module _ (own slot : ℕ) (small : slot < 2) where
   closing start d c image long open_gate torn = record {
     image = d;
     is_image = image;
+    long = length-torn (slot_start own slot) 1 d c torn (omega (arith, slot_within own slot small, long));
     other = other_stays (slot_start own slot) 1 d c torn (omega arith) (omega arith) long;
     itself = elim (cases_eq (get_or c (slot_start own slot) 0) 165) [
       | inl still ↦
@@ -120,6 +121,7 @@ module _ (own slot : ℕ) (small : slot < 2) where
   writing at n start c exact closed behind to after = record {
     image = after.0;
     is_image = after.1;
+    long = length-torn at n after.0 c after.2 (omega (arith, to, slot_within own slot small, exact.images after.0 after.1));
     other = other_stays at n after.0 c after.2 (omega arith) to (exact.images after.0 after.1);
     closed = closed_stays at n after.0 c after.2 behind (exact.images after.0 after.1) (closed after.0 after.1);
   }
@@ -143,6 +145,7 @@ module _ (own slot : ℕ) (small : slot < 2) where
         record {
           image = written.image;
           is_image = written.is_image;
+          long = written.long;
           other = written.other;
           numbers = λ is_open. absurd (written.closed is_open);
           values = λ is_open. absurd (written.closed is_open);
@@ -166,6 +169,7 @@ module _ (own slot : ℕ) (small : slot < 2) where
         record {
           image = read;
           is_image = present_at start read law told;
+          long = length-torn at 1 d c torn (omega (arith, same_length, long, within)) ∙ same_length;
           other = other_stays at 1 d c torn (omega arith) (omega arith) (same_length ∙ long) ∙ other_stays (at + 8) 16 read d first (omega arith) (omega arith) long;
           numbers = λ is_open. numbers;
           values = λ is_open. subst (λ (x : Option (List ℕ)). IfSome x (λ other. slot_values own slot c ≡ slot_values own slot other)) (sym told) values;
@@ -196,7 +200,7 @@ set_told_other own slot before count size x y small fits sized exact torn =
 -- before any call on a closed slot
 pub closed_start : (own slot number : ℕ) (start : DiskState) → IsDisk start → InEveryImage start (IsClosed own slot) → Leaves number start start (WhileWriting own slot start)
 closed_start own slot number start law closed =
-    started number start (WhileWriting own slot start) law (λ c image. record { image = c; is_image = image; other = refl; closed = closed c image })
+    started number start (WhileWriting own slot start) law (λ c image. record { image = c; is_image = image; long = refl; other = refl; closed = closed c image })
 
 -- further writes to the closed slot
 pub writing_on : (own slot number : ℕ) (start mid new : DiskState) → IsDisk mid → Leaves number start mid (WhileClosing own slot start) → Leaves number mid new (WhileWriting own slot mid) →
@@ -205,7 +209,7 @@ writing_on own slot number start mid new law first next =
     joined number start mid new (WhileClosing own slot start) (WhileWriting own slot mid) first next
     (λ c while.
     let before : WhileClosing own slot start while.image = leaves_now number start mid (WhileClosing own slot start) law first while.image while.is_image in
-    record { image = before.image; is_image = before.is_image; other = while.other ∙ before.other; itself = inr while.closed })
+    record { image = before.image; is_image = before.is_image; long = while.long ∙ before.long; other = while.other ∙ before.other; itself = inr while.closed })
 
 told_values : (own slot : ℕ) (values : List Value) (x : Option (List ℕ)) (c : List ℕ) → IfSome x (λ read. slot_values own slot c ≡ slot_values own slot read) →
     IfSome x (λ read. slot_values own slot read ≡ values_bytes values) → IsSome x → slot_values own slot c ≡ values_bytes values
@@ -219,13 +223,14 @@ pub storing_on : (own slot round changed number : ℕ) (values : List Value) (st
 storing_on own slot round changed number values start mid new law first next stand =
     joined number start mid new (WhileStoring own slot round changed values start) (WhileOpening own slot round changed mid)
     (weaker number start mid (WhileClosing own slot start) (WhileStoring own slot round changed values start) first
-    (λ c while. record { image = while.image; is_image = while.is_image; other = while.other; itself = elim while.itself [ inl same ↦ inl same | inr closed ↦ inr (inl closed) ] }))
+    (λ c while. record { image = while.image; is_image = while.is_image; long = while.long; other = while.other; itself = elim while.itself [ inl same ↦ inl same | inr closed ↦ inr (inl closed) ] }))
     next
     (λ c while.
     let before : WhileClosing own slot start while.image = leaves_now number start mid (WhileClosing own slot start) law first while.image while.is_image in
     record {
       image = before.image;
       is_image = before.is_image;
+      long = while.long ∙ before.long;
       other = while.other ∙ before.other;
       itself = elim (cases_eq (get_or c (slot_start own slot) 0) 165) [
         | inl is_open ↦ inr (inr (record {
@@ -242,11 +247,11 @@ pub other_while_storing : (own slot number : ℕ) (start mid new : DiskState) (r
     Leaves number start new (KeepsOther own slot start)
 other_while_storing own slot number start mid new round changed law first next =
     joined number start mid new (KeepsOther own slot start) (WhileOpening own slot round changed mid)
-    (weaker number start mid (WhileClosing own slot start) (KeepsOther own slot start) first (λ c while. record { image = while.image; is_image = while.is_image; other = while.other }))
+    (weaker number start mid (WhileClosing own slot start) (KeepsOther own slot start) first (λ c while. record { image = while.image; is_image = while.is_image; long = while.long; other = while.other }))
     next
     (λ c while.
     let before : WhileClosing own slot start while.image = leaves_now number start mid (WhileClosing own slot start) law first while.image while.is_image in
-    record { image = before.image; is_image = before.is_image; other = while.other ∙ before.other })
+    record { image = before.image; is_image = before.is_image; long = while.long ∙ before.long; other = while.other ∙ before.other })
 
 -- a slot with the same bytes has the same gate
 closed_same : (own slot : ℕ) (a b : List ℕ) → slot_bytes own slot b ≡ slot_bytes own slot a → IsClosed own slot a → IsClosed own slot b
@@ -267,18 +272,19 @@ closing_on own slot number start mid new law closed first next =
     record {
       image = before.image;
       is_image = before.is_image;
+      long = while.long ∙ before.long;
       other = while.other ∙ before.other;
       itself = inr (elim while.itself [ inl same ↦ closed_same own slot while.image c same (closed while.image while.is_image) | inr is_closed ↦ is_closed ]);
     })
 
 pub keeps_other : (own slot number : ℕ) (start new : DiskState) → Leaves number start new (WhileClosing own slot start) → Leaves number start new (KeepsOther own slot start)
 keeps_other own slot number start new run =
-    weaker number start new (WhileClosing own slot start) (KeepsOther own slot start) run (λ c while. record { image = while.image; is_image = while.is_image; other = while.other })
+    weaker number start new (WhileClosing own slot start) (KeepsOther own slot start) run (λ c while. record { image = while.image; is_image = while.is_image; long = while.long; other = while.other })
 
 pub not_yet : (own slot round changed number : ℕ) (values : List Value) (start new : DiskState) → Leaves number start new (WhileClosing own slot start) → Leaves number start new (WhileStoring own slot round changed values start)
 not_yet own slot round changed number values start new run =
     weaker number start new (WhileClosing own slot start) (WhileStoring own slot round changed values start) run
-    (λ c while. record { image = while.image; is_image = while.is_image; other = while.other; itself = elim while.itself [ inl same ↦ inl same | inr closed ↦ inr (inl closed) ] })
+    (λ c while. record { image = while.image; is_image = while.is_image; long = while.long; other = while.other; itself = elim while.itself [ inl same ↦ inl same | inr closed ↦ inr (inl closed) ] })
 
 -- once it is open
 pub holds_now : (own slot round changed number : ℕ) (values : List Value) (mid new : DiskState) → IsDisk mid → IsDisk new → Leaves number mid new (WhileOpening own slot round changed mid) → InEveryImage new (IsOpen own slot) →

@@ -13,10 +13,11 @@ pub record HasExactSize (own : ℕ) (disk : DiskState) : Type 0 where
 abbrev pub SameOther : (own slot : ℕ) → List ℕ → List ℕ → Type 0
 SameOther own slot before now = slot_bytes own (1 - slot) now ≡ slot_bytes own (1 - slot) before
 
--- Bytes that are an image of the start, but for the slot, which is closed if it is not as there.
+-- Bytes that are an image of the start, as many, but for the slot, which is closed if it is not as there.
 pub record WhileClosing (own slot : ℕ) (start : DiskState) (bytes : List ℕ) : Type 0 where
   pub image : List ℕ
   pub is_image : start.images image
+  pub long : length bytes ≡ length image
   pub other : SameOther own slot image bytes
   pub itself : (slot_bytes own slot bytes ≡ slot_bytes own slot image) ⊎ IsClosed own slot bytes
 
@@ -24,6 +25,7 @@ pub record WhileClosing (own slot : ℕ) (start : DiskState) (bytes : List ℕ) 
 pub record WhileWriting (own slot : ℕ) (start : DiskState) (bytes : List ℕ) : Type 0 where
   pub image : List ℕ
   pub is_image : start.images image
+  pub long : length bytes ≡ length image
   pub other : SameOther own slot image bytes
   pub closed : IsClosed own slot bytes
 
@@ -31,6 +33,7 @@ pub record WhileWriting (own slot : ℕ) (start : DiskState) (bytes : List ℕ) 
 pub record WhileOpening (own slot round changed : ℕ) (start : DiskState) (bytes : List ℕ) : Type 0 where
   pub image : List ℕ
   pub is_image : start.images image
+  pub long : length bytes ≡ length image
   pub other : SameOther own slot image bytes
   pub numbers : IsOpen own slot bytes → slot_numbers own slot bytes ≡ number_bytes round changed
   pub values : IsOpen own slot bytes → IfSome start.bytes (λ read. slot_values own slot bytes ≡ slot_values own slot read)

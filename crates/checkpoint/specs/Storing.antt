@@ -14,16 +14,18 @@ use Rattle.gather_laws.specs.Laws.{HaveRoom}
 use Rattle.checkpoint.specs.Applied.{applied, values_in, changed_by}
 use Rattle.checkpoint.specs.SlotStates.{SameOther}
 
--- Bytes that are an image of the start in the other slot.
+-- Bytes that are an image of the start in the other slot, as many as there.
 pub record KeepsOther (own slot : ℕ) (start : DiskState) (bytes : List ℕ) : Type 0 where
   pub image : List ℕ
   pub is_image : start.images image
+  pub long : length bytes ≡ length image
   pub other : SameOther own slot image bytes
 
 -- The same where the slot itself is as there, or closed, or holds the round.
 pub record WhileStoring (own slot round changed : ℕ) (values : List Value) (start : DiskState) (bytes : List ℕ) : Type 0 where
   pub image : List ℕ
   pub is_image : start.images image
+  pub long : length bytes ≡ length image
   pub other : SameOther own slot image bytes
   pub itself : (slot_bytes own slot bytes ≡ slot_bytes own slot image) ⊎ (IsClosed own slot bytes ⊎ HoldsRound own slot round changed values bytes)
 
