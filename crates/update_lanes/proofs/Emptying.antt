@@ -12,7 +12,7 @@ use Rattle.seeded_place.specs.Placing.{Placing, HasPlaced, update_stream}
 use Rattle.phase_model.specs.declared.placed.Placed.{Placed}
 use Rattle.phase_model.specs.Lanes.{update_home}
 use Rattle.update_lanes.specs.Lanes.{HasChunks}
-use Rattle.update_lanes.specs.Outgoing.{Lists, waiting, AreBuffers, NoneWaits, Empties, HasSent}
+use Rattle.update_lanes.specs.Outgoing.{Lists, waiting, AreBuffers, NoneWaits, Empties, FitsJob, HasSent}
 use Rattle.update_lanes.proofs.Written.{at_set}
 use Rattle.update_lanes.proofs.Sent.{waiting_at, length-waiting, length-empties, empties_room}
 
@@ -40,6 +40,7 @@ pub sent_nothing : {X : Type 0} (state : X → DiskState) (job : Job) (epoch wor
     → HasPlaced job.seed (update_stream epoch worker) job.engines 0 placer → places ≡ [] → ((e : ℕ) (d : X) → e < length lanes → HasChunks [] (state (get_or lanes e d)))
     → HasSent state job epoch worker [] buffers placer lanes places
 sent_nothing state job epoch worker buffers placer lanes places many none placed no_places empty = record {
+  fit = All-nil (FitsJob job);
   below = All-nil (λ (u : Update). update_home job u < parts_of job);
   holds = hold_none job.chunk (update_home job) (parts_of job) (waiting buffers) (length-waiting buffers ∙ many) (λ p below. waits p (omega (arith, many, below)));
   made = record { placer_has = placed; written = record { places_are = no_places; lanes_are = empty } };

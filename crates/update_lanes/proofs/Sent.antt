@@ -21,7 +21,7 @@ use Rattle.seeded_place.specs.Placing.{Placing, update_stream, placed}
 use Rattle.phase_model.specs.declared.placed.Placed.{Placed}
 use Rattle.phase_model.specs.Lanes.{update_home}
 use Rattle.update_lanes.specs.Lanes.{HasMade}
-use Rattle.update_lanes.specs.Outgoing.{Lists, waiting, IsBuffer, AreBuffers, NoneFull, HasSent, Gains, Empties}
+use Rattle.update_lanes.specs.Outgoing.{Lists, waiting, IsBuffer, AreBuffers, NoneFull, FitsJob, HasSent, Gains, Empties}
 use Rattle.update_lanes.proofs.Written.{at_set, length-places_of, length-placed}
 
 -- the partition of an update, by the split of the job
@@ -103,9 +103,10 @@ waiting-empties p u old mid new g e =
 
 -- **An update that fills no buffer waits.**
 pub sent_kept : {X : Type 0} (state : X → DiskState) (job : Job) (epoch worker : ℕ) (updates : List Update) (u : Update) (p : ℕ) (old new : Lists) (placer : Placing) (lanes : List X) (places : List Placed)
-    → p ≡ update_home job u → p < length old → (g : Gains p u old new) → length g.buffer.items < job.chunk
+    → FitsJob job u → p ≡ update_home job u → p < length old → (g : Gains p u old new) → length g.buffer.items < job.chunk
     → HasSent state job epoch worker updates old placer lanes places → HasSent state job epoch worker (updates ++ u ∷ []) new placer lanes places
-sent_kept {X} state job epoch worker updates u p old new placer lanes places home_is within g left has = record {
+sent_kept {X} state job epoch worker updates u p old new placer lanes places fits home_is within g left has = record {
+  fit = All-push (FitsJob job) updates u has.fit fits;
   below = All-push (λ (v : Update). update_home job v < parts_of job) updates u has.below below;
   holds = kept.0;
   made = subst (λ made. HasMade state job.seed (update_stream epoch worker) job.engines placer lanes places made)
@@ -129,12 +130,13 @@ one_chunk p items = record { partition = p; items = items } ∷ []
 
 -- **An update that fills its buffer: the chunk was written, and the buffer emptied.**
 pub sent_full : {X : Type 0} (state : X → DiskState) (job : Job) (epoch worker : ℕ) (updates : List Update) (u : Update) (p : ℕ) (old mid new : Lists) (placer after : Placing) (lanes written : List X) (places noted : List Placed)
-    → p ≡ update_home job u → p < length old → (g : Gains p u old mid) → Empties p mid new → length g.buffer.items ≡ job.chunk
+    → FitsJob job u → p ≡ update_home job u → p < length old → (g : Gains p u old mid) → Empties p mid new → length g.buffer.items ≡ job.chunk
     → HasSent state job epoch worker updates old placer lanes places
     → (HasMade state job.seed (update_stream epoch worker) job.engines placer lanes places (full_chunks job.chunk (update_home job) [] updates)
     → HasMade state job.seed (update_stream epoch worker) job.engines after written noted (full_chunks job.chunk (update_home job) [] updates ++ record { partition = p; items = g.buffer.items } ∷ []))
     → HasSent state job epoch worker (updates ++ u ∷ []) new after written noted
-sent_full {X} state job epoch worker updates u p old mid new placer after lanes written places noted home_is within g e full has more = record {
+sent_full {X} state job epoch worker updates u p old mid new placer after lanes written places noted fits home_is within g e full has more = record {
+  fit = All-push (FitsJob job) updates u has.fit fits;
   below = All-push (λ (v : Update). update_home job v < parts_of job) updates u has.below below;
   holds = fills.0;
   made = subst (λ made. HasMade state job.seed (update_stream epoch worker) job.engines after written noted made)

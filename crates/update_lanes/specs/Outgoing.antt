@@ -50,8 +50,14 @@ pub record HasRoom (out : Outgoing) : Type 0 where
   pub bytes : 8 + 12 * out.size ≤ length out.bytes.items
   pub engines : out.placer.engines ≡ out.split.engines
 
+-- an update of a vertex of a job, whose numbers there is room for
+pub record FitsJob (job : Job) (update : Update) : Type 0 where
+  pub holds : holds_update update ≡ true
+  pub dst : update.dst < job.vertices
+
 -- **A worker has sent these updates**: the full chunks of them were written, and the others wait.
 pub record HasSent {X : Type 0} (state : X → DiskState) (job : Job) (epoch worker : ℕ) (updates : List Update) (buffers : Lists) (placer : Placing) (lanes : List X) (places : List Placed) : Type 0 where
+  pub fit : All (FitsJob job) updates
   pub below : All (λ (u : Update). update_home job u < parts_of job) updates
   pub holds : Holds job.chunk (update_home job) (parts_of job) updates (waiting buffers)
   pub made : HasMade state job.seed (update_stream epoch worker) job.engines placer lanes places (full_chunks job.chunk (update_home job) [] updates)

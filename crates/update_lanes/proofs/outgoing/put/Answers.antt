@@ -42,6 +42,7 @@ returns-then-len-out-clause-sent g c =
     let here = gained_here home c.args.update c.args.out.now.buffers.items c.add.new.buffers.items within c.add.ensures c.index.result.now in
     let left : length c.add.ensures.buffer.items < job.chunk = omega (arith, ap vec_len here, ap vec_len c.index.ensures, c.add.ensures.buffer.ok.0, c.len.ensures, size, c.if-len-out.true) in
     sent_kept g.D.Disk.state job epoch worker updates c.args.update home c.args.out.now.buffers.items c.add.new.buffers.items c.args.out.now.placer c.args.lanes.now c.args.places.now.items
+    (record { holds = update_holds c.args.update (search rules) (search rules); dst = omega (arith, of_job.vertices, c.requires.dst) })
     (home_of_update job c.args.out.now.split c.args.update home of_job c.partition_of-home.ensures) within c.add.ensures left has
 
 pub write_chunk-requires-clause-few : goal.write_chunk-requires-clause-few
@@ -111,6 +112,7 @@ returns-clause-sent g c =
     let full : length c.add.ensures.buffer.items ≡ job.chunk = omega (arith, ap vec_len first, ap vec_len c.index.ensures, c.add.ensures.buffer.ok.0, c.len.ensures, size, c.if-len-out.false, c.add.ensures.long c.index-2.result.now, short) in
     let records : c.deref.result.now ≡ c.add.ensures.buffer.items = c.deref.ensures.value ∙ ap (λ v. v.items) (c.index-2.ensures ∙ here) in
     sent_full g.D.Disk.state job epoch worker updates c.args.update home c.args.out.now.buffers.items c.add.new.buffers.items c.empty.new.buffers.items c.args.out.now.placer c.write_chunk.new.placer c.args.lanes.now c.write_chunk.new.lanes c.args.places.now.items c.write_chunk.new.places.items
+    (record { holds = update_holds c.args.update (search rules) (search rules); dst = omega (arith, of_job.vertices, c.requires.dst) })
     (home_of_update job c.args.out.now.split c.args.update home of_job c.partition_of-home.ensures) within c.add.ensures c.empty.ensures full has
     (λ made. subst (λ items. HasMade g.D.Disk.state job.seed (update_stream epoch worker) job.engines c.write_chunk.new.placer c.write_chunk.new.lanes c.write_chunk.new.places.items (full_chunks job.chunk (update_home job) [] updates ++ record { partition = home; items = items } ∷ [])) records
     (c.in_ok-write_chunk.ensures.made job.seed (update_stream epoch worker) job.engines (full_chunks job.chunk (update_home job) [] updates) made))

@@ -1,0 +1,7 @@
+pub mod Opening
+pub mod Splitting
+pub mod Joining
+pub mod Ending
+pub mod Few
+pub mod Made
+pub mod Keeping

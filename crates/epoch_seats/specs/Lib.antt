@@ -1,0 +1,5 @@
+pub mod Between
+pub mod Seats
+pub mod Made
+pub mod Joining
+pub mod Opening
