@@ -1,0 +1,4 @@
+pub mod Crews
+pub mod Gathering
+pub mod Desks
+pub mod Dealing

@@ -1,0 +1,6 @@
+pub mod Emptying
+pub mod Sets
+pub mod Sends
+pub mod Reading
+pub mod Counts
+pub mod Steps

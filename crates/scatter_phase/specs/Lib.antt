@@ -1,0 +1,6 @@
+pub mod Rooms
+pub mod Values
+pub mod Phases
+pub mod Acting
+pub mod Sending
+pub mod Scattered

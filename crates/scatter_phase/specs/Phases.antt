@@ -1,0 +1,90 @@
+-- What a scatter phase says of the desks of its workers.
+use Rattle.std.specs.Prelude.{◌≡◌, ◌⊎◌, ⊤, ℕ, ◌*◌, ◌≤◌, Option, Some, List, length, take}
+use Rattle.std.specs.List.{All}
+use Rattle.graph_model.specs.declared.edge.Edge.{Edge}
+use Rattle.graph_model.specs.declared.value.Value.{Value}
+use Rattle.graph_model.specs.declared.value.Update.{Update}
+use Rattle.graph_model.specs.declared.job.Job.{Job}
+use Rattle.graph_model.specs.Programs.{Rules}
+use Rattle.ports.specs.Disk.{DiskState}
+use Rattle.ports.specs.Faults.{Rose}
+use Rattle.partitioner.specs.declared.split.Split.{Split}
+use Rattle.chunk_model.specs.Layout.{edge_layout}
+use Rattle.phase_model.specs.declared.placed.Placed.{Placed}
+use Rattle.phase_model.specs.Sends.{sent_by, sending_of}
+use Rattle.phase_model.specs.Taken.{records_of}
+use Rattle.store_reader.specs.declared.store.Outcome.{Outcome}
+use Rattle.store_reader.specs.declared.store.Outcome.TheVariants.{Done, DiskFault, Damaged, Memory}
+use Rattle.store_reader.specs.declared.store.Part.TheVariants.{Graph}
+use Rattle.store_reader.specs.Indexed.{HasRecords}
+use Rattle.store_reader.specs.Reading.{len_in}
+use Rattle.update_lanes.specs.Lanes.{AreReady, GoOn, OneRose, IsWithin}
+use Rattle.update_lanes.specs.Outgoing.{HasSent, NoneFull}
+use Rattle.scatter_phase.specs.declared.desk.ScatterContext.{ScatterContext}
+use Rattle.scatter_phase.specs.declared.desk.ScatterDesk.{ScatterDesk}
+use Rattle.scatter_phase.specs.declared.desk.ScatterRoom.{ScatterRoom}
+use Rattle.scatter_phase.specs.Rooms.{IsRoom}
+use Rattle.scatter_phase.specs.Values.{values_in, HoldValues, HoldBefore}
+
+module _ {D M : Type 0} (state : D → DiskState) (faults : M → ℕ) (number : ℕ) where
+  -- how a desk goes on under a beat of this number: its worker and rooms stay, counts of faults never fall, and a disk fault is answered only where one rose
+  pub record GoesOn (old new : ScatterDesk D M) : Type 0 where
+    pub worker : new.worker ≡ old.worker
+    pub room : (job : Job) → IsRoom job old.room → IsRoom job new.room
+    pub reads : faults old.meter ≤ faults new.meter
+    pub lanes : GoOn state number old.lanes.items new.lanes.items
+    pub caused : new.outcome ≡ DiskFault → (old.outcome ≡ DiskFault) ⊎ (Rose (faults old.meter) (faults new.meter) ⊎ OneRose state old.lanes.items new.lanes.items)
+
+module _ {X : Type 0} (state : X → DiskState) (split : Split) (devices : List X) where
+  -- the first of these values are those of the partition, whatever values of all vertices stand in the slot
+  abbrev pub IsSet : (slot partition : ℕ) → List Value → Type 0
+  IsSet slot partition set = (values : List Value) → HoldValues state split devices slot values → take (len_in split partition) set ≡ values_in split partition values
+
+  -- where there is a second slot
+  abbrev pub IsSetBefore : (slot : Option ℕ) → (partition : ℕ) → List Value → Type 0
+  IsSetBefore slot partition set = (s : ℕ) → slot ≡ Some s → IsSet s partition set
+
+module _ {P D G M : Type 0} (rules : P → Rules) (state : D → DiskState) (c : ScatterContext P D G M) where
+  -- the values of the partition that is loaded are in the room
+  abbrev pub AreLoaded : ScatterRoom → Type 0
+  AreLoaded room = (partition : ℕ) → room.loaded ≡ Some partition
+      → IsSet state c.serving.split.now c.values.now c.slot partition room.now.items × IsSetBefore state c.serving.split.now c.values.now c.before partition room.before.items
+
+  -- the places that are noted are on engines and in partitions of the split
+  abbrev pub AreWithin : List Placed → Type 0
+  AreWithin places = All (IsWithin c.serving.job.now.engines c.serving.split.now.parts) places
+
+  -- a desk that can send the updates of one chunk more
+  pub record IsOpen (desk : ScatterDesk D M) : Type 0 where
+    pub room : IsRoom c.serving.job.now desk.room
+    pub loaded : AreLoaded desk.room
+    pub none_full : NoneFull desk.room.outgoing.size desk.room.outgoing.buffers.items
+    pub ready : AreReady state desk.room.outgoing.split.engines c.beat.now (length desk.places.items) desk.lanes.items
+    pub within : AreWithin desk.places.items
+    pub done : desk.outcome ≡ Done
+
+  -- Some updates were sent, no more than these chunks have edges; where the devices tell the chunks and the values, they are what the chunks send
+  pub record HasSentOf (desk : ScatterDesk D M) (chunks : List (ℕ × ℕ)) : Type 0 where
+    pub updates : List Update
+    pub sent : HasSent state c.serving.job.now c.epoch desk.worker updates desk.room.outgoing.buffers.items desk.room.outgoing.placer desk.lanes.items desk.places.items
+    pub few : length updates ≤ c.serving.job.now.chunk * length chunks
+    pub are : (records : ℕ → ℕ → List Edge) → HasRecords state (edge_layout c.serving.job.now.format) c.serving records
+        → (now : List Value) → HoldValues state c.serving.split.now c.values.now c.slot now
+        → (before : Option (List Value)) → HoldBefore state c.serving.split.now c.values.now c.before before
+        → updates ≡ sent_by (sending_of (rules c.program.now) before now) (records_of records chunks)
+
+  pub record DeskHolds (desk : ScatterDesk D M) (chunks : List (ℕ × ℕ)) : Type 0 where
+    pub fit : IsOpen desk
+    pub has : HasSentOf desk chunks
+
+  -- why the work may be stopped: damage is found only where not all chunks stand on devices that tell their bytes
+  abbrev pub MayStopBy : Outcome → Type 0
+  MayStopBy Done = ⊥
+  MayStopBy DiskFault = ⊤
+  MayStopBy (Damaged part engine place) = (part ≡ Graph) × ((records : ℕ → ℕ → List Edge) → HasRecords state (edge_layout c.serving.job.now.format) c.serving records → ⊥)
+  MayStopBy Memory = ⊤
+
+  pub record DeskStops (desk : ScatterDesk D M) (chunks : List (ℕ × ℕ)) : Type 0 where
+    pub why : MayStopBy desk.outcome
+    pub within : AreWithin desk.places.items
+    pub few : length desk.places.items ≤ length chunks
