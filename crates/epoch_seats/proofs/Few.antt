@@ -35,14 +35,14 @@ count_by_key m hits key at is (c ∷ l) small = ⊎_elim
     let one : cond {A = ℕ} (hits c) 1 0 ≡ 1 = cond-true {A = ℕ} (hits c) 1 0 hit in
     let each : (k : ℕ) → count_by (at k) (c ∷ l) ≡ cond (eqb (key c) k) (suc (count_by (at k) l)) (count_by (at k) l) =
     λ k. count-cons (at k) c l
-        ∙ (ap (λ b. cond b 1 0 + count_by (at k) l) (is k c ∙ ap (λ b. b && eqb (key c) k) hit) ∙ one_or_none (eqb (key c) k) (count_by (at k) l)) in
+    ∙ (ap (λ b. cond b 1 0 + count_by (at k) l) (is k c ∙ ap (λ b. b && eqb (key c) k) hit) ∙ one_or_none (eqb (key c) k) (count_by (at k) l)) in
     let all : total m (λ k. count_by (at k) (c ∷ l)) ≡ suc (total m (λ k. count_by (at k) l)) = total_same m _ _ each ∙ total_one_more m (key c) (λ k. count_by (at k) l) (small.0 hit) in
     omega (arith, count-cons hits c l, one, all, count_by_key m hits key at is l small.1))
     (λ miss.
     let none : cond {A = ℕ} (hits c) 1 0 ≡ 0 = cond-false {A = ℕ} (hits c) 1 0 miss in
     let each : (k : ℕ) → count_by (at k) (c ∷ l) ≡ count_by (at k) l =
     λ k. count-cons (at k) c l
-        ∙ (ap (λ b. cond b 1 0 + count_by (at k) l) (is k c ∙ ap (λ b. b && eqb (key c) k) miss) ∙ one_or_none false (count_by (at k) l)) in
+    ∙ (ap (λ b. cond b 1 0 + count_by (at k) l) (is k c ∙ ap (λ b. b && eqb (key c) k) miss) ∙ one_or_none false (count_by (at k) l)) in
     omega (arith, count-cons hits c l, none, total_same m (λ k. count_by (at k) (c ∷ l)) (λ k. count_by (at k) l) each, count_by_key m hits key at is l small.1))
     (cases_Bool (hits c))
 
@@ -232,11 +232,11 @@ module _ (terms : Terms) (worker : ℕ) where
       let by_partition = count_by_key terms.partitions is_admission partition_of at (λ k c. refl) l (each_weaker (λ c. partition_of c < terms.partitions) (λ c. is_admission c ≡ true → partition_of c < terms.partitions) (λ c small _. small) l (partitions_known l duty)) in
       let each : (k : ℕ) → k < terms.partitions → count_by (at k) l ≤ 1 =
       λ k below. omega (
-          arith,
-          count_by-filter (is_on k) (at k) (λ c hit. (and_parts (is_admission c) (is_on k c) hit).1) l,
-          count_le (at k) is_admission (λ c hit. (and_parts (is_admission c) (is_on k c) hit).0) (filter (is_on k) l),
-          (part_modest l duty k below).once,
-        ) in
+        arith,
+        count_by-filter (is_on k) (at k) (λ c hit. (and_parts (is_admission c) (is_on k c) hit).1) l,
+        count_le (at k) is_admission (λ c hit. (and_parts (is_admission c) (is_on k c) hit).0) (filter (is_on k) l),
+        (part_modest l duty k below).once,
+      ) in
       omega (arith, by_partition, total_below terms.partitions 1 (λ k. count_by (at k) l) each)
 
 -- what a call that takes a chunk tells of its cursor
@@ -274,7 +274,7 @@ module _ (terms : Terms) (epoch : Epoch) (begins : BeginsDuty terms epoch) where
   admitted_few few few_partitions =
       let each : (worker : ℕ) → worker < length epoch.lists → count_by is_admission (list_of epoch worker) ≤ 64 =
       λ worker below. let goes_on = begins.each worker (omega (arith, begins.workers)) in
-        omega (arith, few_admissions terms worker few_partitions (list_of epoch worker ++ goes_on.0) goes_on.1, count_by-append is_admission (list_of epoch worker) goes_on.0) in
+      omega (arith, few_admissions terms worker few_partitions (list_of epoch worker ++ goes_on.0) goes_on.1, count_by-append is_admission (list_of epoch worker) goes_on.0) in
       omega (arith, few_in_lists is_admission 64 epoch.lists each, begins.workers)
 
   calls_theirs : AllByRecursion (IsTheirs terms) (all_calls epoch)
@@ -312,11 +312,14 @@ module _ (terms : Terms) (epoch : Epoch) (begins : BeginsDuty terms epoch) where
         subst (λ n. n ≤ 512 * most_chunks) (sym (claims_count (all_calls epoch))) small_count
       where
         none_there : (k : ℕ) → (k / 64 < terms.engines → k % 64 < terms.partitions → ⊥) → count_by (takes_any k) (all_calls epoch) ≤ most_chunks
-        none_there k not = omega (arith, none_hit (takes_any k) (all_calls epoch) (each_weaker (IsTheirs terms) (λ c. takes_any k c ≡ false) (λ c own. false_from_ne_true (takes_any k c) (λ hit.
-            let parts = and_parts (is_take c) (eqb (cursor_at c) k) (sym (takes_at k c) ∙ hit) in
-            let at = own parts.0 in
-            let same : cursor_at c ≡ k = eqb-true (cursor_at c) k parts.1 in
-            not (subst (λ n. n / 64 < terms.engines) same at.0) (subst (λ n. n % 64 < terms.partitions) same at.1))) (all_calls epoch) calls_theirs))
+        none_there k not = omega (
+          arith,
+          none_hit (takes_any k) (all_calls epoch) (each_weaker (IsTheirs terms) (λ c. takes_any k c ≡ false) (λ c own. false_from_ne_true (takes_any k c) (λ hit.
+              let parts = and_parts (is_take c) (eqb (cursor_at c) k) (sym (takes_at k c) ∙ hit) in
+              let at = own parts.0 in
+              let same : cursor_at c ≡ k = eqb-true (cursor_at c) k parts.1 in
+              not (subst (λ n. n / 64 < terms.engines) same at.0) (subst (λ n. n % 64 < terms.partitions) same at.1))) (all_calls epoch) calls_theirs),
+        )
 
         at_each : (k : ℕ) → (k / 64 < terms.engines) ⊎ (terms.engines ≤ k / 64) → (k % 64 < terms.partitions) ⊎ (terms.partitions ≤ k % 64) → count_by (takes_any k) (all_calls epoch) ≤ most_chunks
         at_each k (inl engine) (inl partition) =

@@ -17,5 +17,5 @@ pub use laws::{
 };
 pub use open::open_epoch;
 
-
-
+#[cfg(test)]
+mod tests;

@@ -51,6 +51,7 @@ pub fn gather_all<R: Threads + Sync, P: VertexProgram, D: Disk, G: Gate + Sync>(
     ensures goes_on { (w : ℕ) (m : _) (d : D) → w < context.now.serving.job.now.engines → GoesOn D.state D.M.faults (slice_index_or meters.old.items w m) (slice_index_or meters.new.items w m) (slice_index_or spills.old.items w d) (slice_index_or spills.new.items w d) }
     ensures cause { result.outcome ≡ Outcome.DiskFault → RoseOfOne D.state D.M.faults context.now.serving.job.now.engines meters.old.items meters.new.items spills.old.items spills.new.items }
     ensures stopped { result.outcome ≢ Outcome.Done → MayStopBy P.rules D.state context.now result.outcome }
+    ensures few { (result.claims ≤ 1099511627776) × (result.admitted ≤ 512) }
     // What was done.
     ensures gathered { IsNotBegun P.rules D.state D.M.faults context.now seat.old.view seat.new.view result
         ⊎ HaveGathered P.rules D.state D.M.faults context.now seat.old.view seat.new.view meters.old.items meters.new.items spills.old.items spills.new.items replicas.new.items result }

@@ -13,3 +13,6 @@ mod moves;
 
 pub use crew::{GatherCrew, Gathered};
 pub use epoch::gather_all;
+
+#[cfg(test)]
+mod tests;

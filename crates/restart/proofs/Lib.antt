@@ -1,3 +1,11 @@
 pub mod Devices
 pub mod Closing
 pub mod Dropped
+pub mod SplitOfHead
+pub mod HeadsOfJobs
+pub mod PlacedChunks
+pub mod ChunksOfJobs
+pub mod RoundsOfJobs
+pub mod StoredChunks
+pub mod StoredRounds
+pub mod StoreLaws

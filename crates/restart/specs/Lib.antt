@@ -1,2 +1,5 @@
 pub mod Devices
 pub mod Dropping
+pub mod Recovering
+pub mod Storable
+pub mod Resuming

@@ -8,7 +8,7 @@ ghost use Rattle.chunk_cursor.specs.View.{newcomer, IsFirst};
 ghost use Rattle.store_reader.specs.Indexed.{lens_of};
 ghost use Rattle.phase_model.specs.JobTerms.{terms_of};
 ghost use Rattle.worker_duty.specs.Views.{MayWork};
-ghost use Rattle.scatter_phase.specs.Rooms.{IsRoom, AreLanes, AreValueDevices};
+ghost use Rattle.scatter_phase.specs.Rooms.{IsRoom, AreLanes, AreSlots};
 
 use super::*;
 use chunk_cursor::{CursorSeat, CursorTable};
@@ -42,19 +42,16 @@ const LANE: [u8; 32] = [
 ];
 
 /// Two slots of three vertices. In slot 0 vertex 0 has the distance 0, and the others are not reached; in slot 1 none is.
-fn values() -> [u8; 144]
-    ensures { length result ≡ 144 }
-{
-    let mut bytes = [0; 144];
-    for at in 0..8 {
-        bytes[40 + at] = 0xff;
-        bytes[56 + at] = 0xff;
-        bytes[96 + at] = 0xff;
-        bytes[112 + at] = 0xff;
-        bytes[128 + at] = 0xff;
-    }
-    bytes
-}
+const VALUES: [u8; 144] = [
+    0xa5, 0, 0, 0, 0, 0, 0, 0, 0, 0, 0, 0, 0, 0, 0, 0, 0, 0, 0, 0, 0, 0, 0, 3, // head
+    0, 0, 0, 0, 0, 0, 0, 0, 0, 0, 0, 0, 0, 0, 0, 0, //
+    0xff, 0xff, 0xff, 0xff, 0xff, 0xff, 0xff, 0xff, 0, 0, 0, 0, 0, 0, 0, 0, //
+    0xff, 0xff, 0xff, 0xff, 0xff, 0xff, 0xff, 0xff, 0, 0, 0, 0, 0, 0, 0, 0, //
+    0, 0, 0, 0, 0, 0, 0, 0, 0, 0, 0, 0, 0, 0, 0, 0, 0, 0, 0, 0, 0, 0, 0, 0, // head
+    0xff, 0xff, 0xff, 0xff, 0xff, 0xff, 0xff, 0xff, 0, 0, 0, 0, 0, 0, 0, 0, //
+    0xff, 0xff, 0xff, 0xff, 0xff, 0xff, 0xff, 0xff, 0, 0, 0, 0, 0, 0, 0, 0, //
+    0xff, 0xff, 0xff, 0xff, 0xff, 0xff, 0xff, 0xff, 0, 0, 0, 0, 0, 0, 0, 0, //
+];
 
 fn job_of_three() -> Job
     ensures job { IsWellFormedJob result }
@@ -80,7 +77,10 @@ fn split_of(rt: &impl Abort, job: &Job) -> Split
     ensures split { IsSplit result }
     ensures of_job { IsSplitOf job.now result }
 {
-    Split::of(job.vertices, job.engines, job.most).expect(rt, "a split")
+    match Split::of(job.vertices, job.engines, job.most) {
+        Some(split) => split,
+        None => panic!(rt; "a job has a split"),
+    }
 }
 
 /// An index of the only chunk.
@@ -170,7 +170,9 @@ fn share_of_one(
     gate: &MeetGate,
     read_fails: u64,
     lane_fails: u64,
-) -> Share {
+) -> Share
+    requires { AreSlots slot before }
+{
     let job = job_of_three();
     let split = split_of(rt, &job);
     let index = index_of_one(rt, alloc);
@@ -178,9 +180,8 @@ fn share_of_one(
     let seat = seat_of_one(&table, &mut first, &job, &index);
     let mut desk = desk_of(rt, alloc, &job, &split, seat, read_fails, lane_fails);
     let graphs = [disk_of(rt, alloc, &GRAPH, 0)];
-    let devices = [disk_of(rt, alloc, &values(), 0)];
+    let devices = [disk_of(rt, alloc, &VALUES, 0)];
     assert!(rt; devices[0].size() == 48 + 32 * u64::from(split.own(0)));
-    assert!(rt; slot < 2 && before.is_none_or(|b| b < 2));
     let context = ScatterContext {
         program: &Sssp { root: 0 },
         serving: Serving {

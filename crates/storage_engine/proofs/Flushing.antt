@@ -137,8 +137,8 @@ synced_chunks job made e number mid new law has step synced = record {
 }
 
 -- the cause of a disk fault
-pub rose_cause : (rose : Type 0) (total : ℕ) (fault : MakeFault) → HasMakeCause rose total fault → fault ≡ DiskFault → rose
-rose_cause rose total fault cause is = subst (HasMakeCause rose total) is cause
+pub rose_cause : (rose : Type 0) (fault : MakeFault) → HasMakeCause rose fault → fault ≡ DiskFault → rose
+rose_cause rose fault cause is = subst (HasMakeCause rose) is cause
 
 -- an edge more of a list
 pub making_further : {X : Type 0} (state : X → DiskState) (job now : Job) (before edges : List Edge) (k : ℕ) (d : Edge) (buffers buffers' : List (List Edge)) (placer placer' : Placing) (index index' : List (List Place)) (graphs graphs' : List X)

@@ -8,3 +8,4 @@ pub mod Lists
 pub mod OneChunk
 pub mod Texts
 pub mod TwoBeats
+pub mod Few

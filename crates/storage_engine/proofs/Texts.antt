@@ -20,8 +20,9 @@ use Rattle.graph_model.proofs.TextLemmas.{edges_of_nothing, refusal-stays}
 use Rattle.chunk_file.specs.declared.index.Place.{Place}
 use Rattle.seeded_place.specs.Placing.{Placing}
 use Rattle.edge_reader.specs.declared.reader.EdgeReader.{EdgeReader}
-use Rattle.edge_reader.specs.Reading.{HasRead, Feeds, Finishes, IsFault, AddsWithin}
-use Rattle.storage_engine.specs.Making.{IsMaking, HasMakeCause}
+use Rattle.edge_reader.specs.Reading.{HasRead, Feeds, Finishes, IsFault, Adds, AddsWithin}
+use Rattle.storage_engine.specs.Making.{AreFew, HasRoomFor, IsMaking}
+use Rattle.storage_engine.proofs.Few.{ended_few, text_few}
 use Rattle.storage_engine.specs.Preparing.{HasReadAll, HasPrepareCause, refused, stopped}
 use Rattle.storage_engine.specs.declared.fault.MakeFault.{MakeFault}
 use Rattle.storage_engine.specs.declared.fault.MakeFault.TheVariants as make
@@ -131,12 +132,19 @@ end_refused state job text left left' reader taken count into none new buffers p
     cause_by job text rose read by _ finishes.fault (λ e. if_told text (λ bytes. refusal_of job bytes ≡ Some by)
     (λ bytes told. rw (all_fed state job text left left' reader taken count into buffers placer index graphs zero_read room front moved bytes told).0 e))
 
+-- Edges that were read are few.
+few_ended : (job : Job) (reader : EdgeReader) (fed : List ℕ) → HasRead job.vertices (takes_both_directions job.program) (text_limit job.chunk) reader fed → AreFew job (so_far job fed)
+few_ended job reader fed has = omega (arith, ended_few job.vertices (takes_both_directions job.program) fed, has.room)
+
+few_of_text : (job : Job) (reader : EdgeReader) (fed : List ℕ) → HasRead job.vertices (takes_both_directions job.program) (text_limit job.chunk) reader fed → AreFew job (edges_of_text job.vertices (takes_both_directions job.program) fed)
+few_of_text job reader fed has = omega (arith, text_few job.vertices (takes_both_directions job.program) fed, has.room)
+
 -- **All of the text was read and given.**
 pub taken_all : {X : Type 0} (state : X → DiskState) (job : Job) (text left left' : Option (List ℕ)) (reader : EdgeReader) (taken count : ℕ) (into : List ℕ) (none new : List Edge) (buffers buffers' : List (List Edge)) (placer placer' : Placing) (index index' : List (List Place)) (graphs graphs' : List X)
     → count ≡ 0 → 0 < length into → none ≡ [] → (front : HasTaken state job text left reader taken buffers placer index graphs) → AsTold (Moved count into) left left'
     → Finishes job.vertices (takes_both_directions job.program) (text_limit job.chunk) front.fed none new (Ok tt)
     → IsMaking state job (so_far job front.fed ++ new) buffers' placer' index' graphs'
-    → (edges : List Edge) × HasReadAll job text left' edges × IsMaking state job edges buffers' placer' index' graphs'
+    → (edges : List Edge) × HasReadAll job text left' edges × IsMaking state job edges buffers' placer' index' graphs' × AreFew job edges
 taken_all state job text left left' reader taken count into none new buffers buffers' placer placer' index index' graphs graphs' zero_read room empty front moved finishes making =
     let all = all_fed state job text left left' reader taken count into buffers placer index graphs zero_read room front moved in
     let both = takes_both_directions job.program in
@@ -148,12 +156,12 @@ taken_all state job text left left' reader taken count into none new buffers buf
         nothing_left = if_told text (λ _. left' ≡ Some []) (λ bytes told. (all bytes told).1);
       },
       subst (λ es. IsMaking state job es buffers' placer' index' graphs') (ap (λ es. so_far job front.fed ++ es) news ∙ sym finishes.added.2) making,
+      few_of_text job reader front.fed front.has_read,
     )
 
 -- the making of chunks stops
 pub stopped_by : (job : Job) (text : Option (List ℕ)) (rose read : Type 0) (by : MakeFault) → (by ≡ make.DiskFault → rose) → HasPrepareCause job text rose read (stopped by)
 stopped_by job text rose read make.DiskFault cause = cause refl
-stopped_by job text rose read make.Full cause = tt
 stopped_by job text rose read make.Memory cause = tt
 
 -- edges that a reader gives are of the graph
@@ -176,3 +184,26 @@ pub sources_given : (job now : Job) (none new es : List Edge) → now ≡ job �
 sources_given job now none new es same empty is adds =
     subst (λ (j : Job). All (λ (e : Edge). e.src < j.vertices) es) (sym same)
     (subst (All (λ (e : Edge). e.src < job.vertices)) (sym is) (sources_within job.vertices none new empty adds))
+
+-- so a maker has room for those of a piece, or of the last line
+room_given : {X : Type 0} (state : X → DiskState) (job now : Job) (fed : List ℕ) (after none new es : List Edge) (buffers : List (List Edge)) (placer : Placing) (index : List (List Place)) (graphs : List X)
+    → now ≡ job → none ≡ [] → es ≡ new → Adds (so_far job fed) after none new → AreFew job after → IsMaking state job (so_far job fed) buffers placer index graphs → HasRoomFor state now buffers placer index graphs es
+room_given state job now fed after none new es buffers placer index graphs same empty is adds few making =
+    let added : es ≡ adds.0 = is ∙ adds.1 ∙ ap (λ xs. xs ++ adds.0) empty in
+    subst (λ j. HasRoomFor state j buffers placer index graphs es) (sym same)
+    (so_far job fed, making, subst (AreFew job) (adds.2 ∙ ap (λ xs. so_far job fed ++ xs) (sym added)) few)
+
+pub room_for_piece : {X : Type 0} (state : X → DiskState) (job now : Job) (text left : Option (List ℕ)) (reader reader' : EdgeReader) (taken : ℕ) (piece : List ℕ) (none new es : List Edge) (buffers : List (List Edge)) (placer : Placing) (index : List (List Place)) (graphs : List X)
+    → now ≡ job → none ≡ [] → es ≡ new → (front : HasTaken state job text left reader taken buffers placer index graphs)
+    → Feeds job.vertices (takes_both_directions job.program) (text_limit job.chunk) front.fed piece none new reader' (Ok tt)
+    → HasRoomFor state now buffers placer index graphs es
+room_for_piece state job now text left reader reader' taken piece none new es buffers placer index graphs same empty is front feeds =
+    room_given state job now front.fed (so_far job (front.fed ++ piece)) none new es buffers placer index graphs same empty is feeds.added (few_ended job reader' (front.fed ++ piece) feeds.reads) front.making
+
+pub room_for_end : {X : Type 0} (state : X → DiskState) (job now : Job) (text left : Option (List ℕ)) (reader : EdgeReader) (taken : ℕ) (none new es : List Edge) (buffers : List (List Edge)) (placer : Placing) (index : List (List Place)) (graphs : List X)
+    → now ≡ job → none ≡ [] → es ≡ new → (front : HasTaken state job text left reader taken buffers placer index graphs)
+    → Finishes job.vertices (takes_both_directions job.program) (text_limit job.chunk) front.fed none new (Ok tt)
+    → HasRoomFor state now buffers placer index graphs es
+room_for_end state job now text left reader taken none new es buffers placer index graphs same empty is front finishes =
+    room_given state job now front.fed (edges_of_text job.vertices (takes_both_directions job.program) front.fed) none new es buffers placer index graphs same empty is finishes.added (few_of_text job reader front.fed front.has_read) front.making
+

@@ -1,5 +1,5 @@
 -- The devices of a store while it is made.
-use Rattle.std.specs.Prelude.{◌≡◌, ℕ, ◌+◌, ◌*◌, ◌<◌, ◌≤◌, true, List, [], length, map, slice_index_or, IfSome}
+use Rattle.std.specs.Prelude.{◌≡◌, ℕ, ◌+◌, ◌*◌, ◌<◌, ◌≤◌, true, List, [], ◌++◌, length, map, slice_index_or, IfSome}
 use Rattle.graph_model.specs.declared.edge.Edge.{Edge}
 use Rattle.graph_model.specs.declared.job.Job.{Job}
 use Rattle.std.specs.List.{All}
@@ -19,7 +19,7 @@ use Rattle.store_model.specs.Graphs.{home_of, edge_chunks, graph_with, places_on
 use Rattle.storage_engine.specs.Waiting.{waiting}
 use Rattle.storage_engine.specs.Steps.{IsClosedFront}
 use Rattle.storage_engine.specs.declared.fault.MakeFault.{MakeFault}
-use Rattle.storage_engine.specs.declared.fault.MakeFault.TheVariants.{DiskFault, Full, Memory}
+use Rattle.storage_engine.specs.declared.fault.MakeFault.TheVariants.{DiskFault, Memory}
 
 -- a graph device with the head of engine e, its gate closed in every image
 pub record HasHead (job : Job) (e : ℕ) (disk : DiskState) : Type 0 where
@@ -61,11 +61,14 @@ pub record HasMade {X : Type 0} (state : X → DiskState) (job : Job) (made : Li
 abbrev pub chunk_with : ℕ → List Edge → Chunk Edge
 chunk_with partition edges = record { partition = partition; items = edges }
 
--- why a chunk was not made; `rose` says that the count of a device rose, and `total` is the number of chunks before it
-abbrev pub HasMakeCause : (rose : Type 0) → (total : ℕ) → MakeFault → Type 0
-HasMakeCause rose total DiskFault = rose
-HasMakeCause rose total Full = MOST_PLACES ≤ total
-HasMakeCause rose total Memory = Unit {0}
+-- why a chunk was not made; `rose` says that the count of a device rose
+abbrev pub HasMakeCause : (rose : Type 0) → MakeFault → Type 0
+HasMakeCause rose DiskFault = rose
+HasMakeCause rose Memory = Unit {0}
+
+-- so few edges as a text within its limit has, whose chunks an index has room for
+abbrev pub AreFew : Job → List Edge → Type 0
+AreFew job edges = length edges ≤ 1073741824 * job.chunk
 
 -- These edges of a job were given: their full chunks were made, and the rest waits.
 pub record IsMaking {X : Type 0} (state : X → DiskState) (job : Job) (edges : List Edge) (buffers : List (List Edge)) (placer : Placing) (index : List (List Place)) (graphs : List X) : Type 0 where
@@ -73,6 +76,10 @@ pub record IsMaking {X : Type 0} (state : X → DiskState) (job : Job) (edges : 
   pub filling : (p : ℕ) → p < parts_of job → length (waiting buffers p) < job.chunk
   pub held : (p : ℕ) → p < parts_of job → All (λ edge. holds_edge job.format edge ≡ true) (waiting buffers p)
   pub made : HasMade state job (full_chunks job.chunk (home_of job) [] edges) placer index graphs
+
+-- edges were given, and with some more they are few
+abbrev pub HasRoomFor : {X : Type 0} → (state : X → DiskState) → Job → List (List Edge) → Placing → List (List Place) → List X → (more : List Edge) → Type 0
+HasRoomFor state job buffers placer index graphs more = (edges : List Edge) × IsMaking state job edges buffers placer index graphs × AreFew job (edges ++ more)
 
 -- all chunks of these edges were made, and a stop leaves what a read gives
 pub record IsFlushed {X : Type 0} (state : X → DiskState) (job : Job) (edges : List Edge) (index : List (List Place)) (graphs : List X) : Type 0 where

@@ -55,7 +55,6 @@ refused text.Memory = Memory
 
 abbrev pub stopped : MakeFault → PrepareFault
 stopped make.DiskFault = DiskFault
-stopped make.Full = Memory
 stopped make.Memory = Memory
 
 -- all of the text was read, and these are its edges

@@ -29,8 +29,6 @@ pub enum PrepareFault {
 pub(crate) enum MakeFault {
     /// A write, cut or sync of a device failed.
     DiskFault,
-    /// The store has as many chunks as it may have.
-    Full,
     /// No memory was left.
     Memory,
 }

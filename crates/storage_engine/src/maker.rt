@@ -5,9 +5,10 @@ ghost use Rattle.graph_model.specs.declared.edge.Edge.{Edge};
 ghost use Rattle.graph_model.specs.Jobs.{IsWellFormedJob, span_of, parts_of};
 ghost use Rattle.chunk_model.specs.Chunks.{Chunk};
 ghost use Rattle.chunk_model.specs.Layout.{holds_edge};
+ghost use Rattle.chunk_file.specs.declared.index.TheConstants.{MOST_PLACES};
 ghost use Rattle.chunk_file.specs.Places.{total_of};
 ghost use Rattle.store_model.specs.Graphs.{edge_chunks};
-ghost use Rattle.storage_engine.specs.Making.{HasHead, HasMade, HasMakeCause, IsFlushed, IsMaking, chunk_with};
+ghost use Rattle.storage_engine.specs.Making.{HasHead, HasMade, HasMakeCause, IsFlushed, IsMaking, HasRoomFor, chunk_with};
 ghost use Rattle.storage_engine.specs.Steps.{Step, Each, OneRose, IsClosedFront};
 ghost use Rattle.storage_engine.specs.Waiting.{waiting, no_edges};
 
@@ -72,7 +73,7 @@ impl Maker {
     ) -> Result<(), MakeFault>
         requires job { IsWellFormedJob self.old.job }
         requires format { self.old.job.format ≡ 2 }
-        requires making { (before : List Edge) × IsMaking D.state self.old.job before self.old.buffers self.old.placer self.old.index graphs.old }
+        requires making { HasRoomFor D.state self.old.job self.old.buffers self.old.placer self.old.index graphs.old edges.now }
         requires sources { All (λ edge. edge.src < self.old.job.vertices) edges.now }
         requires beats { All (λ disk. (D.state disk).beat ≤ beat.now) graphs.old }
         ensures job { self.new.job ≡ self.old.job }
@@ -99,7 +100,7 @@ impl Maker {
         beat: &Beat,
     ) -> Result<(), MakeFault>
         requires job { IsWellFormedJob self.old.job }
-        requires making { (edges : List Edge) × IsMaking D.state self.old.job edges self.old.buffers self.old.placer self.old.index graphs.old }
+        requires making { HasRoomFor D.state self.old.job self.old.buffers self.old.placer self.old.index graphs.old (edge ∷ []) }
         requires source { edge.src < self.old.job.vertices }
         requires held { holds_edge self.old.job.format edge ≡ true }
         requires beats { All (λ disk. (D.state disk).beat ≤ beat.now) graphs.old }
@@ -107,7 +108,7 @@ impl Maker {
         ensures steps { Each D.state (Step IsClosedFront beat.now) graphs.old graphs.new }
         ensures making { (edges : List Edge) → IsMaking D.state self.old.job edges self.old.buffers self.old.placer self.old.index graphs.old
             → OnOk result (IsMaking D.state self.old.job (edges ++ edge ∷ []) self.new.buffers self.new.placer self.new.index graphs.new) }
-        ensures cause { IfErr result (HasMakeCause (OneRose D.state graphs.old graphs.new) (total_of self.old.index)) }
+        ensures cause { IfErr result (HasMakeCause (OneRose D.state graphs.old graphs.new)) }
     {
         let partition = edge.src / self.span;
         self.buffers.add(partition as usize, edge)?;
@@ -126,6 +127,7 @@ impl Maker {
     ) -> Result<(), MakeFault>
         requires job { IsWellFormedJob self.old.job }
         requires made { (made : List (Chunk Edge)) × HasMade D.state self.old.job made self.old.placer self.old.index graphs.old }
+        requires room_for_one { total_of self.old.index < MOST_PLACES }
         requires partition { (partition < 64) × (partition < length self.old.buffers) }
         requires some { 0 < length (waiting self.old.buffers partition) }
         requires few { length (waiting self.old.buffers partition) ≤ self.old.job.chunk }
@@ -136,7 +138,7 @@ impl Maker {
         ensures made { (made : List (Chunk Edge)) → HasMade D.state self.old.job made self.old.placer self.old.index graphs.old
             → OnOk result (HasMade D.state self.old.job (made ++ chunk_with partition (waiting self.old.buffers partition) ∷ []) self.new.placer self.new.index graphs.new) }
         ensures emptied { OnOk result (self.new.buffers ≡ slice_set self.old.buffers partition no_edges) }
-        ensures cause { IfErr result (HasMakeCause (OneRose D.state graphs.old graphs.new) (total_of self.old.index)) }
+        ensures cause { IfErr result (HasMakeCause (OneRose D.state graphs.old graphs.new)) }
     {
         let edges = self.buffers.edges(partition as usize);
         write_chunk(
@@ -160,7 +162,7 @@ impl Maker {
         beat: &Beat,
     ) -> Result<Index, MakeFault>
         requires job { IsWellFormedJob self.job }
-        requires making { (edges : List Edge) × IsMaking D.state self.job edges self.buffers self.placer self.index graphs.old }
+        requires making { HasRoomFor D.state self.job self.buffers self.placer self.index graphs.old [] }
         requires beats { All (λ disk. (D.state disk).beat ≤ beat.now) graphs.old }
         ensures steps { Each D.state (Step IsClosedFront beat.now) graphs.old graphs.new }
         ensures made { (edges : List Edge) → IsMaking D.state self.job edges self.buffers self.placer self.index graphs.old
@@ -175,7 +177,7 @@ impl Maker {
     /// Writes what waits, partition by partition.
     fn write_rest<D: Disk>(&mut self, graphs: &mut [D], beat: &Beat) -> Result<(), MakeFault>
         requires job { IsWellFormedJob self.old.job }
-        requires making { (edges : List Edge) × IsMaking D.state self.old.job edges self.old.buffers self.old.placer self.old.index graphs.old }
+        requires making { HasRoomFor D.state self.old.job self.old.buffers self.old.placer self.old.index graphs.old [] }
         requires beats { All (λ disk. (D.state disk).beat ≤ beat.now) graphs.old }
         ensures steps { Each D.state (Step IsClosedFront beat.now) graphs.old graphs.new }
         ensures made { (edges : List Edge) → IsMaking D.state self.old.job edges self.old.buffers self.old.placer self.old.index graphs.old

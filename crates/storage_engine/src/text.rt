@@ -6,7 +6,7 @@ ghost use Rattle.graph_model.specs.EdgeText;
 ghost use Rattle.graph_model.specs.Programs;
 ghost use Rattle.graph_model.specs.Jobs.{IsWellFormedJob};
 ghost use Rattle.ports.specs.Faults.{Rose};
-ghost use Rattle.storage_engine.specs.Making.{IsMaking};
+ghost use Rattle.storage_engine.specs.Making.{AreFew, IsMaking};
 ghost use Rattle.storage_engine.specs.Preparing;
 ghost use Rattle.storage_engine.specs.Preparing.{HasReadAll, HasPrepareCause};
 ghost use Rattle.storage_engine.specs.Steps.{Step, Each, OneRose, IsClosedFront};
@@ -35,7 +35,7 @@ pub(crate) fn make_chunks<S: Source, D: Disk>(
     ensures job { maker.new.job ≡ maker.old.job }
     ensures steps { Each D.state (Step IsClosedFront beat.now) graphs.old graphs.new }
     ensures made { OnOk result ((edges : List Edge) × HasReadAll maker.old.job (S.left source.old) (S.left source.new) edges
-        × IsMaking D.state maker.old.job edges maker.new.buffers maker.new.placer maker.new.index graphs.new) }
+        × IsMaking D.state maker.old.job edges maker.new.buffers maker.new.placer maker.new.index graphs.new × AreFew maker.old.job edges) }
     ensures cause { IfErr result (HasPrepareCause maker.old.job (S.left source.old) (OneRose D.state graphs.old graphs.new) (Rose (S.faults source.old) (S.faults source.new))) }
 {
     let job = maker.job;
@@ -92,12 +92,11 @@ fn refused(fault: TextFault) -> PrepareFault
     }
 }
 
-/// A text within its limit has too few edges to fill an index, so a full one counts as want of memory.
 pub(crate) fn stopped(fault: MakeFault) -> PrepareFault
     ensures { result ≡ Preparing.stopped fault }
 {
     match fault {
         MakeFault::DiskFault => PrepareFault::DiskFault,
-        MakeFault::Full | MakeFault::Memory => PrepareFault::Memory,
+        MakeFault::Memory => PrepareFault::Memory,
     }
 }

@@ -6,12 +6,13 @@ ghost use Rattle.graph_model.specs.Jobs.{IsWellFormedJob};
 ghost use Rattle.chunk_model.specs.Chunks.{Chunk};
 ghost use Rattle.chunk_model.specs.Layout.{edge_width, holds_edge};
 ghost use Rattle.chunk_model.specs.ChunkBytes.{chunk_width};
+ghost use Rattle.chunk_file.specs.declared.index.TheConstants.{MOST_PLACES};
 ghost use Rattle.chunk_file.specs.Places.{total_of};
 ghost use Rattle.storage_engine.specs.Making.{HasMade, HasMakeCause, chunk_with};
 ghost use Rattle.storage_engine.specs.Steps.{Step, Each, OneRose, IsClosedFront};
 
 use crate::fault::MakeFault;
-use chunk_file::{Index, MOST_PLACES, Place, append_chunk};
+use chunk_file::{Index, Place, append_chunk};
 use graph_model::{Edge, Job};
 use ports::{Beat, Disk};
 use seeded_place::Placer;
@@ -30,6 +31,7 @@ pub(crate) fn write_chunk<D: Disk>(
 ) -> Result<(), MakeFault>
     requires job { IsWellFormedJob job.now }
     requires made { (made : List (Chunk Edge)) × HasMade D.state job.now made placer.old index.old graphs.old }
+    requires room_for_one { total_of index.old < MOST_PLACES }
     requires partition { partition < 64 }
     requires some { 0 < length edges.now }
     requires few { length edges.now ≤ job.now.chunk }
@@ -40,11 +42,8 @@ pub(crate) fn write_chunk<D: Disk>(
     ensures made { (made : List (Chunk Edge)) → HasMade D.state job.now made placer.old index.old graphs.old
         → OnOk result (HasMade D.state job.now (made ++ chunk_with partition edges.now ∷ []) placer.new index.new graphs.new) }
     ensures room { length bytes.new ≡ length bytes.old }
-    ensures cause { IfErr result (HasMakeCause (OneRose D.state graphs.old graphs.new) (total_of index.old)) }
+    ensures cause { IfErr result (HasMakeCause (OneRose D.state graphs.old graphs.new)) }
 {
-    if index.total() >= MOST_PLACES {
-        return Err(MakeFault::Full);
-    }
     let engine = placer.next();
     let at = append_chunk(
         &mut graphs[engine as usize],

@@ -1,10 +1,10 @@
 -- What is known of a head whose fields are all well formed.
-use Rattle.std.proofs.Common.{◌≡◌, ◌∙◌, ℕ, zero, suc, ◌+◌, ◌^◌, ◌<◌, ◌≤◌, ◌==◌, ◌&&◌, ◌||◌, nat_le, nat_lt, Bool, true, false, if◌then◌else◌, List, [], ◌∷◌, length, get_or, Option, Some, None, refl, sym, ap, subst, arith, lit<}
+use Rattle.std.proofs.Common.{◌≡◌, ◌∙◌, ℕ, zero, suc, ◌^◌, ◌<◌, ◌≤◌, ◌==◌, ◌&&◌, ◌||◌, nat_le, nat_lt, Bool, true, false, if◌then◌else◌, List, [], ◌∷◌, length, get_or, Option, Some, None, refl, sym, ap, arith, lit<}
 use Rattle.std.proofs.lemmas.Bool.{leb-true, ltb-true, eqb-true}
 use Rattle.graph_model.specs.declared.job.Job.{Job}
 use Rattle.graph_model.specs.Jobs.{IsWellFormedJob, IsWellFormedProgram, most_vertices}
 use Rattle.store_model.specs.declared.field.Field.{Field}
-use Rattle.store_model.specs.declared.field.Field.TheVariants.{Format, Engines, Program, Argument, Vertices, Most, Chunk, Alpha, Limit}
+use Rattle.store_model.specs.declared.field.Field.TheVariants.{Format, Engines, Engine, Program, Argument, Vertices, Most, Chunk, Alpha, Limit}
 use Rattle.store_model.specs.declared.field.TheConstants.{FIELDS}
 use Rattle.store_checks.specs.Jobs.{SaysJob}
 use Rattle.store_model.specs.Damage.{first_bad, is_good, is_argument, value_of, place_of, parts_in, within}
@@ -97,3 +97,7 @@ formed_by head job good says program seed = record {
   keep = says.keep;
   few_parts = rw (says.vertices, says.engines, says.most) good.parts;
 }
+
+-- the number of an engine has one byte
+pub small_engine : (e : ℕ) (head : List ℕ) → ((i : ℕ) → get_or head i 0 < 256) → first_bad (is_good e head) FIELDS ≡ None → e < 256
+small_engine e head bytes none = omega (arith, bytes 3, eqb-true (value_of Engine head) e (good_at (is_good e head) FIELDS none 2 Format (lit< tt)))

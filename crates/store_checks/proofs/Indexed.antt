@@ -1,7 +1,7 @@
 -- The chunks of the graph devices of the engines that were scanned.
-use Rattle.std.proofs.Common.{◌≡◌, ◌≢◌, ◌∙◌, ◌⊎◌, ℕ, zero, suc, ◌+◌, ◌*◌, ◌<◌, ◌≤◌, ◌==◌, cond, List, [], ◌∷◌, ◌++◌, length, drop, map, get_or, replicate, inl, inr, refl, sym, ap, subst, arith, add-one}
+use Rattle.std.proofs.Common.{◌≡◌, ◌≢◌, ◌∙◌, ℕ, zero, suc, ◌+◌, ◌*◌, ◌<◌, ◌≤◌, ◌==◌, cond, List, [], ◌∷◌, ◌++◌, length, drop, map, replicate, inl, inr, refl, sym, ap, subst, arith, add-one}
 use Rattle.std.specs.List.{range_with_len, sum_by}
-use Rattle.std.proofs.lemmas.Bool.{cases_lt, cases_eq, eq-eqb, ne_eqb}
+use Rattle.std.proofs.lemmas.Bool.{cases_eq, eq-eqb, ne_eqb}
 use Rattle.std.proofs.lemmas.List.{get_or-replicate}
 use Rattle.std.proofs.lemmas.List.Folds.{sum_by-replicate}
 use Rattle.std.proofs.lemmas.List.Sums.{sum_by_push}
@@ -95,7 +95,11 @@ all_scanned job split told e index all few below = record {
   made = below.made;
   each = λ k less. below.each k (omega arith);
   few = subst (λ n. chunks_before below.made n ≤ MOST_CHUNKS) all (omega (arith, below.counted));
-  index_is = record { here = λ k p less within. below.here k p (omega arith) within };
+  index_is = record {
+    here = λ k p less within. below.here k p (omega arith) within;
+    elsewhere = λ k p from small within. below.rest k p (omega arith) small within;
+    total = sym (subst (λ n. chunks_before below.made n ≡ total_of index) all below.counted);
+  };
 }
 
 -- **A scan that stops.**

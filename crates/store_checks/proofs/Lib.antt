@@ -3,3 +3,4 @@ pub mod GoodHeads
 pub mod HeadChecks
 pub mod SlotReads
 pub mod Indexed
+pub mod KeptRounds

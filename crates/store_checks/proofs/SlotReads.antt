@@ -1,5 +1,5 @@
 -- The head of a slot, as it was read and as its bytes say.
-use Rattle.std.proofs.Common.{◌≡◌, ◌≢◌, ◌∙◌, ◌↔◌, ℕ, ◌+◌, ◌*◌, ◌%◌, ◌^◌, ◌<◌, ◌≤◌, ◌==◌, ◌&&◌, ◌||◌, not, nat_le, Bool, true, false, if◌then◌else◌, List, ◌++◌, length, take, drop, get_or, IsTrue, Option, Some, None, [], ◌∷◌, inl, inr, refl, sym, ap, subst, arith}
+use Rattle.std.proofs.Common.{◌≡◌, ◌∙◌, ℕ, ◌+◌, ◌^◌, ◌<◌, ◌==◌, ◌&&◌, ◌||◌, not, nat_le, Bool, true, false, if◌then◌else◌, List, length, take, drop, get_or, IsTrue, Option, Some, None, [], ◌∷◌, inl, inr, refl, sym, ap, subst, arith}
 use Rattle.std.specs.Int.{to_be_bytes, from_be_bytes, w64}
 use Rattle.std.proofs.lemmas.Nat.{from_be_bytes-to_be_bytes_8}
 use Rattle.std.proofs.lemmas.Bool.{eq-eqb, ne_eqb, false≢true, cases_lt}

@@ -8,15 +8,18 @@ use Rattle.chunk_model.specs.Chunks.{Chunk}
 use Rattle.chunk_model.specs.Layout.{edge_layout}
 use Rattle.chunk_model.specs.ChunkBytes.{bytes_of_chunks, starts_of}
 use Rattle.chunk_file.specs.declared.index.Place.{Place}
-use Rattle.chunk_file.specs.Places.{places_of, on_graph}
+use Rattle.chunk_file.specs.Places.{places_of, total_of, no_places, on_graph}
 use Rattle.chunk_file.specs.Scans.{IsEdgeChunk, NoEdgeChunk}
 use Rattle.store_model.specs.Heads.{HEAD_SIZE}
 use Rattle.store_model.specs.Kept.{device}
 use Rattle.store_model.specs.Damage.{MOST_CHUNKS, chunks_before}
 
--- the index has, for each engine and partition, the places of its chunks on the engine's graph device, in order of bytes
+-- the index has, for each engine and partition, the places of its chunks on the engine's graph device, in order of bytes,
+-- and no other
 pub record IsIndexOf (format : ℕ) (made : ℕ → List (Chunk Edge)) (engines : ℕ) (index : List (List Place)) : Type 0 where
   pub here : (e p : ℕ) → e < engines → p < 64 → places_of index e p ≡ map on_graph (starts_of (edge_layout format) p HEAD_SIZE (made e))
+  pub elsewhere : (e p : ℕ) → engines ≤ e → e < 8 → p < 64 → places_of index e p ≡ no_places
+  pub total : total_of index ≡ chunks_before made engines
 
 -- from behind the head on, the device has these chunks, and then the rest
 pub record Begins (job : Job) (split : Split) (made : List (Chunk Edge)) (rest bytes : List ℕ) : Type 0 where

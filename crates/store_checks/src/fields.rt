@@ -1,5 +1,5 @@
 //! The fields of one head.
-ghost use Rattle.std.specs.Prelude.{◌≡◌, ◌+◌, ◌<◌, ◌≤◌, ◌==◌, ◌&&◌, ◌||◌, ◌^◌, true, not, ℕ, length, nat_le, None};
+ghost use Rattle.std.specs.Prelude.{◌≡◌, ◌+◌, ◌<◌, ◌≤◌, ◌==◌, ◌&&◌, ◌||◌, ◌^◌, true, not, ℕ, length, nat_le, None, IfNone};
 ghost use Rattle.std.specs.Int.{from_be_bytes, w64};
 ghost use Rattle.std.specs.Int.{IsInRange};
 ghost use Rattle.ports.specs.Bytes.{bytes_at};
@@ -23,7 +23,8 @@ const MARK: u64 = 0x47;
 /// The place of the first field of a head of this engine that is not well formed.
 pub(crate) fn bad_field(engine: u32, head: &[u8]) -> Option<u64>
     requires { length head.now ≡ 65 }
-    ensures { result ≡ first_bad (Damage.is_good engine head.now) FIELDS }
+    ensures bad { result ≡ first_bad (Damage.is_good engine head.now) FIELDS }
+    ensures small { IfNone result (engine < 256) }
 {
     for field in &FIELDS {
         if !is_good(*field, engine, head) {

@@ -19,7 +19,6 @@ use store_reader::Part;
 /// say.
 pub fn job_of_heads<D: Disk>(graphs: &[D], meter: &mut D::M) -> Result<Job, RecoverFault>
     requires some { 1 ≤ length graphs.now }
-    requires few { length graphs.now ≤ 8 }
     requires sizes { All (λ disk. 65 ≤ (D.state disk).size) graphs.now }
     ensures formed { IfOk result IsWellFormedJob }
     ensures engines { IfOk result (λ job. job.engines ≡ length graphs.now) }
@@ -50,10 +49,10 @@ pub fn job_of_heads<D: Disk>(graphs: &[D], meter: &mut D::M) -> Result<Job, Reco
     Ok(job)
 }
 
-/// Checks that each head is well formed.
+/// Checks that each head is well formed. The number of an engine has one byte in its head, so more than 256 never are.
 fn check_heads<D: Disk>(graphs: &[D], meter: &mut D::M) -> Result<(), RecoverFault>
-    requires few { length graphs.now ≤ 8 }
     requires sizes { All (λ disk. 65 ≤ (D.state disk).size) graphs.now }
+    ensures few { OnOk result (length graphs.now ≤ 256) }
     ensures sound { (told : List (List ℕ)) → Tell D.state graphs.now told → OnOk result (first_over (λ e. head_fault e (head_of told e)) (length told) ≡ None) }
     ensures later { D.M.faults meter.old ≤ D.M.faults meter.new }
     ensures cause { IfErr result (HasRecoverCause (Rose (D.M.faults meter.old) (D.M.faults meter.new))
@@ -70,7 +69,7 @@ fn check_heads<D: Disk>(graphs: &[D], meter: &mut D::M) -> Result<(), RecoverFau
 /// Checks that each head is as the first one, but for the engine's number.
 fn compare_heads<D: Disk>(first: &[u8], graphs: &[D], meter: &mut D::M) -> Result<(), RecoverFault>
     requires first { length first.now ≡ 65 }
-    requires few { length graphs.now ≤ 8 }
+    requires few { length graphs.now ≤ 256 }
     requires sizes { All (λ disk. 65 ≤ (D.state disk).size) graphs.now }
     ensures sound { (told : List (List ℕ)) → Tell D.state graphs.now told → OnOk result (first_over (λ e. other_fault first.now e (head_of told e)) (length told) ≡ None) }
     ensures later { D.M.faults meter.old ≤ D.M.faults meter.new }
@@ -93,6 +92,7 @@ fn well_formed_head<D: Disk>(
 ) -> Result<[u8; HEAD_SIZE], RecoverFault>
     requires { 65 ≤ (D.state disk.now).size }
     ensures good { IfOk result (λ head. first_bad (is_good engine head) FIELDS ≡ None) }
+    ensures small { OnOk result (engine < 256) }
     ensures read { (told : List ℕ) → (D.state disk.now).bytes ≡ Some told → IfOk result (λ head. head ≡ take 65 told) }
     ensures sound { (told : List ℕ) → (D.state disk.now).bytes ≡ Some told → OnOk result (head_fault engine (take 65 told) ≡ None) }
     ensures later { D.M.faults meter.old ≤ D.M.faults meter.new }

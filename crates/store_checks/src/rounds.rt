@@ -13,19 +13,13 @@ ghost use Rattle.store_checks.specs.Causes.{Tell, HasRecoverCause};
 ghost use Rattle.store_checks.specs.Rounds.{TellsSlot, IsWithin};
 
 use crate::RecoverFault;
+use crate::kept::Standing;
 use partitioner::Split;
 use ports::Disk;
 use store_reader::{Part, slot_head};
 
-/// A round that stands in a slot of each engine, and how many values changed in it.
-#[derive(Clone, Copy, PartialEq, Eq, Debug)]
-pub(crate) struct Standing {
-    pub round: u64,
-    pub changed: u64,
-}
-
 /// What stands in a slot of an engine's values device, which has its exact size. None where the slot is closed.
-fn read_slot<D: Disk>(
+pub(crate) fn read_slot<D: Disk>(
     disk: &D,
     meter: &mut D::M,
     split: &Split,
@@ -36,7 +30,7 @@ fn read_slot<D: Disk>(
     requires engine { engine < split.now.engines }
     requires exact { (D.state disk.now).size ≡ device_size (own_in split.now engine) }
     requires slot { slot < 2 }
-    ensures within { IfOk result (IsWithin (own_in split.now engine)) }
+    ensures within { IfOk result (IsWithin (own_in split.now engine) slot) }
     ensures read { (told : List ℕ) → (D.state disk.now).bytes ≡ Some told → IfOk result (TellsSlot (own_in split.now engine) slot told) }
     ensures sound { (told : List ℕ) → (D.state disk.now).bytes ≡ Some told → OnOk result (is_good_slot (own_in split.now engine) slot told ≡ true) }
     ensures later { D.M.faults meter.old ≤ D.M.faults meter.new }

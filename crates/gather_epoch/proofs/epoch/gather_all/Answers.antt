@@ -79,6 +79,17 @@ returns-clause-stopped g c not =
     (emptied_steps g.D.Disk.state c.args.context.now.beat.now c.args.spills.now c.deref_mut.result.now c.empty_all.new.disks c.deref_mut.ensures.value c.empty_all.ensures.many c.empty_all.ensures.steps) (omega (arith, c.requires.spills.0, c.args.spills.now.ok.0))
     (λ done. not (c.collect-gathered.ensures.outcome ∙ done)))
 
+pub returns-clause-few : goal.returns-clause-few
+returns-clause-few g c =
+    let ended = (c.close_epoch.ensures.ended (terms_of c.args.context.now.serving.job.now) (lens_of c.args.context.now.serving.index.now) c.args.seat.now.view (omega arith) c.open_epoch.ensures.begun
+    (are_seats g.P.VertexProgram.rules g.D.Disk.state g.D.M.Meter.faults c.args.context.now c.deal.new.crew.desks.items c.open_epoch.new.seats.items c.args.meters.now.items c.args.replicas.now.items _ c.args.crew.now.rooms.items c.deal.ensures.dealt
+    (c.deal.ensures.numbers ∙ ap (range_with_len 0) c.requires.meters) c.args.seat.now.view.splits c.open_epoch.ensures.seats c.fork_gather.new.desks.items (omega (arith, c.fork_gather.ensures.many.0, c.fork_gather.new.desks.ok.0, c.deal.new.crew.desks.ok.0)) c.fork_gather.ensures.worked
+    _ _ _ _ _ c.collect-gathered.ensures.dealt)) in
+    (made g.P.VertexProgram.rules g.D.Disk.state g.D.M.Meter.faults c.args.context.now c.deal.new.crew.desks.items c.open_epoch.new.seats.items c.args.meters.now.items c.args.replicas.now.items _ c.args.crew.now.rooms.items c.deal.ensures.dealt
+    (c.deal.ensures.numbers ∙ ap (range_with_len 0) c.requires.meters) c.args.seat.now.view.splits c.open_epoch.ensures.seats c.fork_gather.new.desks.items (omega (arith, c.fork_gather.ensures.many.0, c.fork_gather.new.desks.ok.0, c.deal.new.crew.desks.ok.0)) c.fork_gather.ensures.worked
+    _ _ _ _ _ c.collect-gathered.ensures.dealt
+    (omega arith) (omega (arith, c.requires.serving.job.few_parts)) c.requires.serving.few c.args.seat.now.view c.close_epoch.new.seat.view ended c.collect-gathered.result c.collect-gathered.ensures.outcome c.collect-gathered.ensures.claims c.collect-gathered.ensures.admitted).few
+
 pub returns-clause-gathered : goal.returns-clause-gathered
 returns-clause-gathered g c =
     let ended = (c.close_epoch.ensures.ended (terms_of c.args.context.now.serving.job.now) (lens_of c.args.context.now.serving.index.now) c.args.seat.now.view (omega arith) c.open_epoch.ensures.begun

@@ -1,10 +1,11 @@
-use Rattle.std.proofs.Common.{◌≡◌, ◌∙◌, ◌⊎◌, inl, inr, ℕ, List, length, replicate, refl, sym, ap, subst}
+use Rattle.std.proofs.Common.{◌≡◌, ◌∙◌, ◌⊎◌, inl, inr, ℕ, List, [], length, replicate, refl, sym, ap, subst}
 use Rattle.std.proofs.lemmas.List.{length-replicate}
 use Rattle.graph_model.specs.declared.edge.Edge.{Edge}
 use Rattle.graph_model.specs.declared.job.Job.{Job}
 use Rattle.ports.specs.Faults.{Rose}
 use Rattle.store_model.specs.Heads.{IsShutGraph}
-use Rattle.storage_engine.specs.Making.{IsMaking, IsFlushed}
+use Rattle.std.proofs.lemmas.List.{append-nil}
+use Rattle.storage_engine.specs.Making.{AreFew, HasRoomFor, IsMaking, IsFlushed}
 use Rattle.storage_engine.specs.Preparing.{HasReadAll, HasPrepareCause}
 use Rattle.storage_engine.specs.Steps.{Step, Each, OneRose, IsClosedFront}
 use Rattle.storage_engine.proofs.Every.{each_then, one_rose_later}
@@ -64,3 +65,10 @@ returns-clause-cause g c =
     (stopped_by c.args.job.now (g.S.Source.left c.args.source.now) (OneRose g.D.Disk.state c.args.graphs.now c.flush.new.graphs ⊎ OneRose g.D.Disk.state c.args.values.now c.begin_devices.new.values)
     (Rose (g.S.Source.faults c.args.source.now) (g.S.Source.faults c.make_chunks.new.source)) c.in-Err-flush.fault
     (λ is. inl (one_rose_later g.D.Disk.state IsShutGraph c.args.beat.now c.args.graphs.now c.make_chunks.new.graphs c.flush.new.graphs shut (c.in-Err-flush.ensures.rose is))))
+
+pub flush-requires-clause-making : goal.flush-requires-clause-making
+flush-requires-clause-making g c = λ _ _.
+    let made = c.in_default-make_chunks.ensures.made in
+    let maker = c.make_chunks.new.maker in
+    subst (λ (j : Job). HasRoomFor g.D.Disk.state j maker.buffers maker.placer maker.index c.make_chunks.new.graphs []) (sym c.make_chunks.ensures.job)
+    (made.0, made.2, subst (AreFew c.in-Ok-new.maker.job) (sym (append-nil made.0)) made.3)

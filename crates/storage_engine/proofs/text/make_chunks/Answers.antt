@@ -7,7 +7,7 @@ use Rattle.storage_engine.specs.Making.{IsMaking}
 use Rattle.storage_engine.specs.Preparing.{HasPrepareCause, HasReadAll}
 use Rattle.storage_engine.specs.Steps.{Step, Each, OneRose, IsClosedFront}
 use Rattle.storage_engine.proofs.Every.{each_same, each_then, one_rose_later}
-use Rattle.storage_engine.proofs.Texts.{so_far, taken_none, taken_more, taken_all, piece_refused, end_refused, stopped_by, given_further, sources_given}
+use Rattle.storage_engine.proofs.Texts.{so_far, taken_none, taken_more, taken_all, piece_refused, end_refused, stopped_by, given_further, sources_given, room_for_piece, room_for_end}
 use Rattle.storage_engine.proofs.text.make_chunks.Goals as goal
 
 pub pieces-init : goal.pieces-init
@@ -121,3 +121,23 @@ returns-clause-made g c =
     c.if-count-eq0.true (omega arith) c.clear-2.ensures.items front c.in-Ok.ensures.moved finishes
     (given_further state job c.pieces.maker.job (so_far job front.fed) c.deref-2.result.now c.finish.new.into.items c.pieces.maker.buffers c.add_all-2.new.self.buffers c.pieces.maker.placer c.add_all-2.new.self.placer c.pieces.maker.index c.add_all-2.new.self.index c.pieces.graphs c.add_all-2.new.graphs
     c.pieces.invariant.job c.deref-2.ensures.value front.making (λ b now. c.in_default-add_all-2.ensures.making b now))
+
+pub add_all-requires-clause-making : goal.add_all-requires-clause-making
+add_all-requires-clause-making g c = λ _ _.
+    let state = g.D.Disk.state in
+    let job = c.args.maker.now.job in
+    let both = takes_both_directions job.program in
+    let limit = text_limit job.chunk in
+    let front = c.pieces.invariant.front in
+    room_for_piece state job c.pieces.maker.job _ _ _ c.feed.new.self _ _ c.clear.new.self.items c.feed.new.into.items c.deref.result.now c.pieces.maker.buffers c.pieces.maker.placer c.pieces.maker.index c.pieces.graphs
+    c.pieces.invariant.job c.clear.ensures.items c.deref.ensures.value front (c.in_default-feed.ensures.read job.vertices both limit front.fed front.has_read)
+
+pub add_all-requires-2-clause-making : goal.add_all-requires-2-clause-making
+add_all-requires-2-clause-making g c = λ _ _.
+    let state = g.D.Disk.state in
+    let job = c.args.maker.now.job in
+    let both = takes_both_directions job.program in
+    let limit = text_limit job.chunk in
+    let front = c.pieces.invariant.front in
+    room_for_end state job c.pieces.maker.job _ _ _ _ c.clear-2.new.self.items c.finish.new.into.items c.deref-2.result.now c.pieces.maker.buffers c.pieces.maker.placer c.pieces.maker.index c.pieces.graphs
+    c.pieces.invariant.job c.clear-2.ensures.items c.deref-2.ensures.value front (c.in_default-finish.ensures.read job.vertices both limit front.fed front.has_read)

@@ -1,6 +1,5 @@
-use Rattle.std.proofs.Common.{◌≡◌, ◌<◌, ◌≤◌, ◌^◌, ◌∙◌, true, refl, sym, ap, subst, arith}
-use Rattle.graph_model.specs.Jobs.{most_vertices}
-use Rattle.store_model.specs.declared.field.Field.TheVariants.{Program, Argument, Vertices}
+use Rattle.std.proofs.Common.{◌≡◌, ◌<◌, ◌≤◌, ◌^◌, ◌∙◌, true, refl, sym, subst, arith}
+use Rattle.store_model.specs.declared.field.Field.TheVariants.{Program, Vertices}
 use Rattle.store_model.specs.Damage.{value_of, is_argument}
 use Rattle.store_checks.proofs.GoodHeads.{good_head, few_vertices, small_argument, formed_by}
 use Rattle.store_checks.proofs.fields.job_of.Goals as goal

@@ -1,7 +1,7 @@
-use Rattle.std.proofs.Common.{◌≡◌, ◌<◌, ◌≤◌, ℕ, List, length, take, Some, None, sym, subst, arith}
+use Rattle.std.proofs.Common.{◌≡◌, ◌<◌, ℕ, List, length, take, Some, None, sym, subst, arith}
 use Rattle.ports.specs.Faults.{Rose}
 use Rattle.store_model.specs.Kept.{device}
-use Rattle.store_model.specs.Damage.{Fault, first_over, head_fault, head_of}
+use Rattle.store_model.specs.Damage.{first_over, head_fault, head_of}
 use Rattle.store_checks.specs.Causes.{Tell}
 use Rattle.store_checks.proofs.HeadChecks.{over_more, over_finds, cause_by, tell_at}
 use Rattle.store_checks.proofs.heads.check_heads.Goals as goal
@@ -10,6 +10,7 @@ pub loop-e-preserved : goal.loop-e-preserved
 loop-e-preserved g c =
     let x = c.index-graphs-e.result in
     record {
+      few = omega (arith, c.in_default.ensures.small);
       sound = λ told tell.
           over_more (λ e. head_fault e (head_of told e)) c.loop-e.e (c.loop-e.invariant.sound told tell)
           (c.in_default.ensures.sound (device told c.loop-e.e) (tell_at g.D.Disk.state c.args.graphs.now told c.loop-e.e x tell c.loop-e-test.true c.index-graphs-e.is));

@@ -1,7 +1,7 @@
-use Rattle.std.proofs.Common.{◌≡◌, ◌<◌, ◌≤◌, ℕ, List, length, take, Some, None, sym, subst, arith}
+use Rattle.std.proofs.Common.{◌≡◌, ◌<◌, ℕ, List, length, take, Some, None, sym, subst, arith}
 use Rattle.ports.specs.Faults.{Rose}
 use Rattle.store_model.specs.Kept.{device}
-use Rattle.store_model.specs.Damage.{Fault, first_over, other_fault, head_of}
+use Rattle.store_model.specs.Damage.{first_over, other_fault, head_of}
 use Rattle.store_checks.specs.Causes.{Tell}
 use Rattle.store_checks.proofs.HeadChecks.{over_more, over_finds, cause_by, tell_at}
 use Rattle.store_checks.proofs.heads.compare_heads.Goals as goal

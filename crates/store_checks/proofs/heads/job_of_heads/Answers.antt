@@ -1,8 +1,8 @@
-use Rattle.std.proofs.Common.{◌≡◌, ◌≢◌, ◌∙◌, ◌<◌, ◌≤◌, ℕ, List, length, take, Some, None, refl, sym, ap, subst, rules, arith}
+use Rattle.std.proofs.Common.{◌≡◌, ◌≢◌, ◌∙◌, ◌<◌, ℕ, List, length, take, Some, None, refl, sym, subst, rules, arith}
 use Rattle.ports.specs.Faults.{Rose}
 use Rattle.store_model.specs.declared.field.Field.TheVariants.{Engines}
 use Rattle.store_model.specs.Kept.{device}
-use Rattle.store_model.specs.Damage.{Fault, EnginesDiffer, first_over, head_fault, other_fault, engines_fault, heads_fault, head_of, value_of}
+use Rattle.store_model.specs.Damage.{EnginesDiffer, first_over, head_fault, other_fault, engines_fault, heads_fault, head_of, value_of}
 use Rattle.store_checks.specs.Causes.{Tell}
 use Rattle.store_checks.specs.Jobs.{SaysJob}
 use Rattle.store_checks.proofs.HeadChecks.{over_finds, cause_by, tell_at, first_check, second_check, third_check, differ, agree}

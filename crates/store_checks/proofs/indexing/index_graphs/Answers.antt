@@ -1,10 +1,9 @@
-use Rattle.std.proofs.Common.{◌≡◌, ◌<◌, ◌≤◌, ◌∙◌, ℕ, List, [], length, Some, IfSome, refl, sym, ap, subst, arith}
+use Rattle.std.proofs.Common.{◌≡◌, ◌<◌, ◌∙◌, ℕ, List, [], length, IfSome, refl, sym, ap, subst, arith}
 use Rattle.std.proofs.lemmas.List.Folds.{sum_by-replicate}
 use Rattle.ports.specs.Faults.{Rose}
 use Rattle.chunk_file.specs.declared.index.Place.{Place}
 use Rattle.chunk_file.specs.Places.{no_places, total_of}
 use Rattle.chunk_file.specs.Scans.{Scanned, StopsAt}
-use Rattle.store_model.specs.Kept.{device}
 use Rattle.store_model.specs.Damage.{Fault, GraphDamaged}
 use Rattle.store_checks.specs.Causes.{Tell, HasRecoverCause}
 use Rattle.store_checks.specs.Indexing.{StopsIn}

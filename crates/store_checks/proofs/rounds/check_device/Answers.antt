@@ -1,4 +1,4 @@
-use Rattle.std.proofs.Common.{◌≡◌, ◌∙◌, ℕ, List, length, Some, None, sym, ap, subst, refl, rules, arith}
+use Rattle.std.proofs.Common.{◌≡◌, ◌∙◌, ℕ, List, length, Some, None, sym, ap, subst, rules, arith}
 use Rattle.ports.specs.Faults.{Rose}
 use Rattle.ports.proofs.Told.{sized_at}
 use Rattle.store_model.specs.Slots.{device_size}

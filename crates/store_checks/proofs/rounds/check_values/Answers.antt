@@ -1,8 +1,8 @@
-use Rattle.std.proofs.Common.{◌≡◌, ◌<◌, ◌≤◌, ℕ, List, length, Some, None, get_or, sym, subst, arith}
+use Rattle.std.proofs.Common.{◌≡◌, ◌<◌, ℕ, List, length, Some, None, sym, subst, arith}
 use Rattle.ports.specs.Faults.{Rose}
 use Rattle.store_model.specs.Slots.{device_size}
 use Rattle.store_model.specs.Kept.{device}
-use Rattle.store_model.specs.Damage.{Fault, first_over, device_fault}
+use Rattle.store_model.specs.Damage.{first_over, device_fault}
 use Rattle.store_reader.specs.Reading.{own_in}
 use Rattle.store_checks.specs.Causes.{Tell}
 use Rattle.store_checks.proofs.HeadChecks.{over_more, over_finds, cause_by, tell_at}

@@ -1,4 +1,4 @@
-use Rattle.std.proofs.Common.{◌≡◌, ◌∙◌, ◌==◌, ◌&&◌, ◌<◌, ◌^◌, ℕ, List, nat_le, Some, IfSome, true, false, sym, subst, rules, arith}
+use Rattle.std.proofs.Common.{◌≡◌, ◌∙◌, ◌==◌, ◌&&◌, ◌<◌, ◌^◌, ℕ, List, nat_le, Some, IfSome, sym, subst, rules, arith}
 use Rattle.ports.specs.Faults.{Rose}
 use Rattle.store_model.specs.Slots.{slot_of, slot_start}
 use Rattle.store_model.specs.Damage.{slot_fault, ValuesDamaged}

@@ -7,6 +7,7 @@ use Rattle.chunk_model.specs.Chunks.{full_chunks}
 use Rattle.storage_engine.specs.Making.{IsMaking, HasMade, chunk_with}
 use Rattle.storage_engine.specs.Waiting.{no_edges, waiting, with_edge}
 use Rattle.storage_engine.proofs.Adding.{home_is, home_below, kept_at, fills_at, held_at}
+use Rattle.storage_engine.proofs.Few.{room_while_given}
 use Rattle.storage_engine.proofs.maker.Maker.add.Goals as goal
 
 pub add-requires : goal.add-requires
@@ -53,3 +54,7 @@ returns-clause-making g c = λ edges making.
     (home_is job c.args.edge c.args.self.now.span c.args.self.now.span_is) c.requires.job c.requires.source making c.in_ok-add.ensures.ok emptied
     (omega (arith, c.if-edges-self.false, ap length c.edges.ensures)) made)
     (c.write.ensures.made (full_chunks job.chunk (home_of job) [] edges) making.made) c.write.ensures.emptied
+
+pub write-requires-clause-room_for_one : goal.write-requires-clause-room_for_one
+write-requires-clause-room_for_one g c = λ _ _.
+    room_while_given g.D.Disk.state c.args.self.now.job c.requires.making.0 (c.args.edge ∷ []) c.args.self.now.buffers c.args.self.now.placer c.args.self.now.index c.args.graphs.now c.requires.job c.requires.making.1 c.requires.making.2

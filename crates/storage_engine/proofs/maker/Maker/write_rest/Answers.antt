@@ -5,11 +5,13 @@ use Rattle.graph_model.specs.declared.job.Job.{Job}
 use Rattle.graph_model.specs.Jobs.{parts_of}
 use Rattle.chunk_model.specs.Chunks.{full_chunks}
 use Rattle.store_model.specs.Graphs.{home_of}
-use Rattle.storage_engine.specs.Making.{IsMaking, HasMade, chunk_with}
+use Rattle.std.proofs.lemmas.List.{append-nil}
+use Rattle.storage_engine.specs.Making.{AreFew, IsMaking, HasMade, chunk_with}
 use Rattle.storage_engine.specs.Steps.{Step, Each, OneRose, IsClosedFront}
 use Rattle.storage_engine.specs.Waiting.{waiting, no_edges}
 use Rattle.storage_engine.proofs.Every.{each_then, one_rose_later}
 use Rattle.storage_engine.proofs.Flushing.{rests_below, rose_cause, rest_skipped, rest_written, rest_ends}
+use Rattle.storage_engine.proofs.Few.{room_while_written}
 use Rattle.storage_engine.proofs.maker.Maker.write_rest.Goals as goal
 
 pub parts-preserved-then-is_empty : goal.parts-preserved-then-is_empty
@@ -27,7 +29,7 @@ parts-preserved-then-is_empty g c = record {
 pub returns-in-Err-clause-rose : goal.returns-in-Err-clause-rose
 returns-in-Err-clause-rose g c = λ is.
     one_rose_later g.D.Disk.state IsClosedFront c.args.beat.now c.args.graphs.now c.parts.graphs c.write.new.graphs c.parts.invariant.steps
-    (rose_cause (OneRose g.D.Disk.state c.parts.graphs c.write.new.graphs) _ c.in-Err.fault c.in-Err.ensures.cause is)
+    (rose_cause (OneRose g.D.Disk.state c.parts.graphs c.write.new.graphs) c.in-Err.fault c.in-Err.ensures.cause is)
 
 pub parts-preserved : goal.parts-preserved
 parts-preserved g c =
@@ -52,3 +54,17 @@ pub returns-clause-made : goal.returns-clause-made
 returns-clause-made g c = λ edges making.
     rest_ends g.D.Disk.state c.args.self.now.job edges c.parts.partition c.args.self.now.buffers c.parts.self.buffers c.parts.self.placer c.parts.self.index c.parts.graphs
     (omega (arith, c.parts-test.false, c.len-parts.ensures, making.holds.many, c.parts.auto.partition-end)) (c.parts.invariant.written edges making)
+
+pub write-requires-clause-room_for_one : goal.write-requires-clause-room_for_one
+write-requires-clause-room_for_one g c = λ _ _.
+    let job = c.args.self.now.job in
+    let edges = c.requires.making.0 in
+    let making = c.requires.making.1 in
+    let below : c.parts.partition < parts_of job = omega (arith, c.parts-test.true, c.len-parts.ensures, making.holds.many) in
+    room_while_written g.D.Disk.state job edges c.parts.partition c.parts.self.placer c.parts.self.index c.parts.graphs c.requires.job (omega (arith, below)) (c.parts.invariant.written edges making).made
+    (subst (AreFew job) (append-nil edges) c.requires.making.2)
+
+pub returns-in-Err-clause-steps : goal.returns-in-Err-clause-steps
+returns-in-Err-clause-steps g c =
+    let disks = g.met.D.Disk g.world.𝓛 g.world.𝓜 g.world.𝓡 ((λ s x. x), (λ x. x), (λ x. x), λ x. x) in
+    each_then g.D.Disk.state IsClosedFront c.args.beat.now c.args.graphs.now c.parts.graphs c.write.new.graphs disks.lawful c.parts.invariant.steps c.write.ensures.steps

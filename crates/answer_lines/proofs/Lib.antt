@@ -1,0 +1,5 @@
+pub mod Written
+pub mod LineLemmas
+pub mod Sets
+pub mod Printed
+pub mod Answered
