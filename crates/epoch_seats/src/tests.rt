@@ -55,8 +55,8 @@ fn index_of_one(rt: &impl Abort, alloc: Global) -> Index
     index
 }
 
-/// An epoch in which the second worker looks at the cursors, and the first counts a partition's workers.
-fn look_around(
+/// An epoch in which nobody makes a call.
+fn idle(
     rt: &impl Abort,
     table: &CursorTable,
     seat: &mut CursorSeat,
@@ -74,6 +74,26 @@ fn look_around(
     let job = job();
     let split = split_of_job(rt, &job);
     open_epoch(table, seat, &job, &split, index, seats);
+    close_epoch(table, seat, seats);
+}
+
+/// An epoch in which the second worker looks at the cursors, and the first counts a partition's workers.
+fn look_around(
+    rt: &impl Abort,
+    table: &CursorTable,
+    seat: &mut CursorSeat,
+    index: &Index,
+    seats: &mut Vec<CursorSeat>,
+)
+    requires table { seat.old.table ≡ table.now }
+    requires between { IsBetweenEpochs seat.old.view }
+    requires few { (cursor : ℕ) → lens_of index.now cursor ≤ 1 }
+    requires room { (vec_len seats.old ≡ 0) × (2 ≤ vec_capacity seats.old) }
+    ensures room { vec_len seats.new ≡ 0 }
+{
+    let job = job();
+    let split = split_of_job(rt, &job);
+    open_epoch(table, seat, &job, &split, index, seats);
     assert_eq!(rt; table.look(&mut seats[1], 64), 1);
     assert_eq!(rt; table.look(&mut seats[1], 0), 0);
     assert_eq!(rt; table.heads(&mut seats[0], 1), 1);
@@ -86,7 +106,7 @@ fn two_epochs_are_opened_and_closed_with_the_same_seats(rt: HostRuntime) {
     let index = index_of_one(&rt, alloc);
     let (table, mut seat) = CursorTable::new(alloc).expect(&rt, "a table");
     let mut seats = Vec::with_capacity(alloc, 2).expect(&rt, "room");
-    look_around(&rt, &table, &mut seat, &index, &mut seats);
+    idle(&rt, &table, &mut seat, &index, &mut seats);
     look_around(&rt, &table, &mut seat, &index, &mut seats);
     assert!(&rt; seats.is_empty());
 }

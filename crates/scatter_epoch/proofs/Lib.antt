@@ -1,0 +1,6 @@
+pub mod Moving
+pub mod Pairs
+pub mod Walks
+pub mod Workers
+pub mod Assembling
+pub mod Sending
