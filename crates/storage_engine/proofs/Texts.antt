@@ -206,4 +206,3 @@ pub room_for_end : {X : Type 0} (state : X → DiskState) (job now : Job) (text 
     → HasRoomFor state now buffers placer index graphs es
 room_for_end state job now text left reader taken none new es buffers placer index graphs same empty is front finishes =
     room_given state job now front.fed (edges_of_text job.vertices (takes_both_directions job.program) front.fed) none new es buffers placer index graphs same empty is finishes.added (few_of_text job reader front.fed front.has_read) front.making
-

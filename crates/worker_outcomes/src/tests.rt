@@ -12,5 +12,8 @@ fn the_lowest_worker_that_is_not_done_counts(rt: HostRuntime) {
     assert_eq!(&rt; lower_outcome(Outcome::Done, Outcome::Done), Outcome::Done);
     assert_eq!(&rt; lower_outcome(Outcome::Done, damaged), damaged);
     assert_eq!(&rt; lower_outcome(damaged, Outcome::DiskFault), damaged);
-    assert_eq!(&rt; lower_outcome(Outcome::Memory, Outcome::Done), Outcome::Memory);
+    assert_eq!(&rt;
+        lower_outcome(Outcome::Memory, Outcome::Done),
+        Outcome::Memory
+    );
 }
