@@ -1,0 +1,14 @@
+pub mod Merging
+pub mod Sets
+pub mod Through
+pub mod Counts
+pub mod Gathered
+pub mod Resetting
+pub mod Begun
+pub mod Applied
+pub mod Holding
+pub mod Scattered
+pub mod Updated
+pub mod Firsts
+pub mod Pairs
+pub mod Kept

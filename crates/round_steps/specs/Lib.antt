@@ -1,0 +1,6 @@
+pub mod Crews
+pub mod Going
+pub mod Standing
+pub mod Epochs
+pub mod Rounds
+pub mod Updates
