@@ -1,4 +1,4 @@
-// The worked row of shortest distances: three edges in one chunk on one engine.
+// Shortest distances over three edges, which are one chunk on one engine.
 ghost use Rattle.std.specs.Prelude.{◌≡◌, ℕ, [], ◌<◌, ◌≤◌, length};
 ghost use Rattle.mem_devices.specs.MemDisk.{disk_state};
 ghost use Rattle.graph_model.specs.Jobs.{IsWellFormedJob, parts_of};
