@@ -15,3 +15,6 @@ mod moves;
 
 pub use crew::{ScatterCrew, Scattered};
 pub use epoch::scatter_all;
+
+#[cfg(test)]
+mod tests;
