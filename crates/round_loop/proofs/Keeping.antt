@@ -1,0 +1,107 @@
+-- Devices, meters and counts from one step to the next.
+use Rattle.std.proofs.Common.{◌≡◌, ℕ, ◌≤◌, List, Vec, length, get_or, inl, inr, refl, ◌∙◌, arith}
+use Rattle.std.specs.Global.{Global}
+use Rattle.ports.specs.Disk.{DiskState}
+use Rattle.ports.specs.Faults.{Rose}
+use Rattle.store_reader.specs.declared.store.Store.{Store}
+use Rattle.update_lanes.specs.Lanes.{GoOn, OneRose}
+use Rattle.partitioner.specs.declared.split.Split.{Split}
+use Rattle.round_steps.specs.Going.{MetersGoOn, Tell, RowsTell, RowsGoOn, KeepsStore, SomeRose}
+use Rattle.round_loop.specs.Keeping.{AreLater, AreLaterRows, Keeps, IsTold}
+
+-- a count that rose, before or after others go on
+rose_then : (a b c : ℕ) → Rose a b → b ≤ c → Rose a c
+rose_then a b c rose later = omega (arith, rose)
+
+later_rose : (a b c : ℕ) → a ≤ b → Rose b c → Rose a c
+later_rose a b c later rose = grind (arith, rose)
+
+module _ {D : Type 0} (state : D → DiskState) where
+  same_devices : (xs : List D) → AreLater state xs xs
+  same_devices xs = record { many = refl; faults = λ e d within. omega arith; told = λ e d bytes within is. (bytes, is) }
+
+  then_devices : (xs ys zs : List D) → AreLater state xs ys → AreLater state ys zs → AreLater state xs zs
+  then_devices xs ys zs first next = record {
+    many = next.many ∙ first.many;
+    faults = λ e d within. omega (arith, first.faults e d within, next.faults e d (omega (arith, first.many)));
+    told = λ e d bytes within is. let mid = first.told e d bytes within is in next.told e d mid.0 (omega (arith, first.many)) mid.1;
+  }
+
+  of_going : (number : ℕ) (xs ys : List D) → GoOn state number xs ys → AreLater state xs ys
+  of_going number xs ys going = record { many = going.many; faults = going.later; told = going.told }
+
+  still_told : (xs ys : List D) → AreLater state xs ys → Tell state xs → Tell state ys
+  still_told xs ys later tell = λ e d within. let was = tell e d (omega (arith, later.many)) in later.told e d was.0 (omega (arith, later.many)) was.1
+
+  rose_before : (xs ys zs : List D) → OneRose state xs ys → AreLater state ys zs → length ys ≡ length xs → OneRose state xs zs
+  rose_before xs ys zs rose later many =
+      (rose.0, rose.1, λ d. rose_then (state (get_or xs rose.0 d)).faults (state (get_or ys rose.0 d)).faults (state (get_or zs rose.0 d)).faults (rose.2 d) (later.faults rose.0 d (omega (arith, rose.1, many))))
+
+  rose_after : (xs ys zs : List D) → AreLater state xs ys → OneRose state ys zs → OneRose state xs zs
+  rose_after xs ys zs later rose =
+      (rose.0, omega (arith, rose.1, later.many), λ d. later_rose (state (get_or xs rose.0 d)).faults (state (get_or ys rose.0 d)).faults (state (get_or zs rose.0 d)).faults (later.faults rose.0 d (omega (arith, rose.1, later.many))) (rose.2 d))
+
+  same_rows : (xs : List (Vec D Global)) → AreLaterRows state xs xs
+  same_rows xs = record { many = refl; each = λ w row within. same_devices (get_or xs w row).items }
+
+  then_rows : (xs ys zs : List (Vec D Global)) → AreLaterRows state xs ys → AreLaterRows state ys zs → AreLaterRows state xs zs
+  then_rows xs ys zs first next = record {
+    many = next.many ∙ first.many;
+    each = λ w row within. then_devices (get_or xs w row).items (get_or ys w row).items (get_or zs w row).items (first.each w row within) (next.each w row (omega (arith, first.many)));
+  }
+
+  of_rows : (number : ℕ) (xs ys : List (Vec D Global)) → RowsGoOn state number xs ys → AreLaterRows state xs ys
+  of_rows number xs ys going = record { many = going.many; each = λ w row within. of_going number (get_or xs w row).items (get_or ys w row).items (going.each w row within) }
+
+  rows_told : (xs ys : List (Vec D Global)) → AreLaterRows state xs ys → RowsTell state xs → RowsTell state ys
+  rows_told xs ys later tell = λ w row within. still_told (get_or xs w row).items (get_or ys w row).items (later.each w row (omega (arith, later.many))) (tell w row (omega (arith, later.many)))
+
+module _ {D M : Type 0} (state : D → DiskState) where
+  pub kept_same : (store : Store D M) → Keeps state store store
+  kept_same store = record { graphs = refl; values = same_devices state store.values.items; lanes = same_rows state store.lanes.items; spills = same_devices state store.spills.items }
+
+  pub kept_then : (old mid new : Store D M) → Keeps state old mid → Keeps state mid new → Keeps state old new
+  kept_then old mid new first next = record {
+    graphs = next.graphs ∙ first.graphs;
+    values = then_devices state old.values.items mid.values.items new.values.items first.values next.values;
+    lanes = then_rows state old.lanes.items mid.lanes.items new.lanes.items first.lanes next.lanes;
+    spills = then_devices state old.spills.items mid.spills.items new.spills.items first.spills next.spills;
+  }
+
+  pub kept_by_step : (split : Split) (round number : ℕ) (done : Type 0) (old new : Store D M) → KeepsStore state split round number done old new → Keeps state old new
+  kept_by_step split round number done old new keeps = record {
+    graphs = keeps.graphs;
+    values = of_going state number old.values.items new.values.items keeps.values.going;
+    lanes = of_rows state number old.lanes.items new.lanes.items keeps.lanes;
+    spills = of_going state number old.spills.items new.spills.items keeps.spills;
+  }
+
+  pub told_still : (old new : Store D M) → Keeps state old new → IsTold state old → IsTold state new
+  told_still old new keeps told = record {
+    values = still_told state old.values.items new.values.items keeps.values told.values;
+    lanes = rows_told state old.lanes.items new.lanes.items keeps.lanes told.lanes;
+    spills = still_told state old.spills.items new.spills.items keeps.spills told.spills;
+  }
+
+  module _ (faults : M → ℕ) where
+    pub meters_same : (meters : List M) → MetersGoOn faults meters meters
+    meters_same meters = record { many = refl; later = λ w m within. omega arith }
+
+    pub meters_then : (xs ys zs : List M) → MetersGoOn faults xs ys → MetersGoOn faults ys zs → MetersGoOn faults xs zs
+    meters_then xs ys zs first next = record {
+      many = next.many ∙ first.many;
+      later = λ w m within. omega (arith, first.later w m within, next.later w m (omega (arith, first.many)));
+    }
+
+    -- what rose in a later step rose since the beginning
+    pub rose_since : (old mid new : Store D M) (xs ys zs : List M) → Keeps state old mid → MetersGoOn faults xs ys → SomeRose state faults mid new ys zs → SomeRose state faults old new xs zs
+    rose_since old mid new xs ys zs keeps meters rose = elim rose [
+      | inl meter ↦ inl (meter.0, omega (arith, meter.1, meters.many), λ m. later_rose (faults (get_or xs meter.0 m)) (faults (get_or ys meter.0 m)) (faults (get_or zs meter.0 m)) (meters.later meter.0 m (omega (arith, meter.1, meters.many))) (meter.2 m))
+      | inr device ↦ elim device [
+        | inl values ↦ inr (inl (rose_after state old.values.items mid.values.items new.values.items keeps.values values))
+        | inr more ↦ elim more [
+          | inl lane ↦ inr (inr (inl (lane.0, omega (arith, lane.1, keeps.lanes.many), λ row. rose_after state (get_or old.lanes.items lane.0 row).items (get_or mid.lanes.items lane.0 row).items (get_or new.lanes.items lane.0 row).items (keeps.lanes.each lane.0 row (omega (arith, lane.1, keeps.lanes.many))) (lane.2 row))))
+          | inr spill ↦ inr (inr (inr (rose_after state old.spills.items mid.spills.items new.spills.items keeps.spills spill)))
+        ]
+      ]
+    ]

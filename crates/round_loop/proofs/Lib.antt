@@ -1,0 +1,10 @@
+mod Reaching
+mod SlotBytes
+mod Stopping
+mod Keeping
+mod Epochs
+mod Advancing
+mod Beginning
+mod Ending
+mod Counting
+mod Steps
