@@ -38,12 +38,12 @@ none_read format split most at room size buffer told read sized is_room fits non
     no_chunk_at_device (edge_layout format) (edge_layout_is format) split.vertices split.span most p at room size buffer told read sized is_room fits (none p below)
 
 -- the head names one partition
-pub none_of_others : (format : ℕ) (split : Split) (most partition : ℕ) (front : List ℕ) → split.parts ≤ 64 → most ≤ 65536 →
+pub none_of_others : (format : ℕ) (split : Split) (most partition : ℕ) (front : List ℕ) → split.parts ≤ 64 →
     partition ≡ from_be_bytes w32 (bytes_at 0 4 front) →
     (partition < split.parts → NoChunkIn (edge_layout format) split most partition 0 front) →
     (p : ℕ) → p < split.parts → NoChunkIn (edge_layout format) split most p 0 front
-none_of_others format split most partition front few small told none p below records is =
-    let tells = head_tells (edge_layout format) (edge_layout_is format) p front records (omega arith) (omega (arith, is.are.few)) is.stands in
+none_of_others format split most partition front few told none p below records is =
+    let tells = head_tells (edge_layout format) (edge_layout_is format) p front records (omega arith) is.are.counted is.stands in
     let same : p ≡ partition = sym tells.partition ∙ sym told in
     subst (λ k. k < split.parts → NoChunkIn (edge_layout format) split most k 0 front) (sym same) none below records is
 

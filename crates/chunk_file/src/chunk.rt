@@ -51,7 +51,7 @@ fn get_records<R: Record>(
     format: u32,
 ) -> bool
     requires size { length bytes.now ≡ (R.layout format).width * length into.old }
-    requires few { length into.old ≤ 65536 }
+    requires few { length into.old < 2 ^ 32 }
     ensures written { flat_map (R.layout format).bytes into.new ≡ bytes.now }
     ensures room { All (λ r. (R.layout format).holds r ≡ true) into.new }
     ensures belong { result ≡ list_all (is_in (R.layout format) vertices first end) into.new }
@@ -88,7 +88,6 @@ pub(crate) fn get_chunk<R: Record>(
 ) -> Option<u32>
     requires split { IsSplit split.now }
     requires partition { partition < split.now.parts }
-    requires few { length into.old ≤ 65536 }
     ensures found { IfSome result (λ count. ReadsChunk (R.layout format) split.now partition bytes.now count into.new) }
     ensures none { IfNone result (NoChunkIn (R.layout format) split.now (length into.old) partition 0 bytes.now) }
 {

@@ -27,7 +27,6 @@ pub fn read_chunk<R: Record, D: Disk>(
 ) -> Result<u32, ChunkFault>
     requires split { IsSplit split.now }
     requires partition { partition < split.now.parts }
-    requires few { length into.old ≤ 65536 }
     requires room { chunk_width (R.layout format).width (length into.old) ≤ length bytes.old }
     // Whether or not the device tells its bytes.
     ensures within { IfOk result (λ count. count ≤ length into.new) }

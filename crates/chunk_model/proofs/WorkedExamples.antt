@@ -127,6 +127,7 @@ chunk_stands = record { stands = (7 ∷ [], refl); are = are }
     are = record {
       some = lit< tt;
       few = omega arith;
+      counted = lit< tt;
       held = All-from_recursion (λ r. (edge_layout 1).holds r ≡ true) (edge ∷ []) (refl, tt);
       belong = All-from_recursion (Belongs (edge_layout 1) 300 2 129) (edge ∷ []) (record { fits = refl; home = refl }, tt);
     }
@@ -135,7 +136,7 @@ chunk_stands = record { stands = (7 ∷ [], refl); are = are }
 empty_is_no_chunk : NoChunkAt (edge_layout 1) 300 2 4 129 0 (0 ∷ 0 ∷ 0 ∷ 129 ∷ 0 ∷ 0 ∷ 0 ∷ 0 ∷ [])
 empty_is_no_chunk records is =
     let zero_many : to_be_bytes w32 0 ≡ to_be_bytes w32 (length records) = told_count (edge_layout 1) 129 0 _ records is.stands in
-    let none : 0 ≡ length records = same_number 0 (length records) (lit< tt) (omega (arith, is.are.few)) zero_many in
+    let none : 0 ≡ length records = same_number 0 (length records) (lit< tt) is.are.counted zero_many in
     absurd (omega (arith, is.are.some))
 
 -- and so is one that the bytes end in

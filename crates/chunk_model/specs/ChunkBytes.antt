@@ -22,10 +22,11 @@ pub record Belongs {X : Type 0} (layout : Layout X) (vertices span partition : �
   pub fits : layout.fits vertices r ≡ true
   pub home : layout.home r / span ≡ partition
 
--- the records of a chunk of this partition, of at most so many
+-- the records of a chunk of this partition, of at most so many, whose number has room in four bytes
 pub record AreChunk {X : Type 0} (layout : Layout X) (vertices span most partition : ℕ) (records : List X) : Type 0 where
   pub some : 0 < length records
   pub few : length records ≤ most
+  pub counted : length records < 2 ^ 32
   pub held : All (λ r. layout.holds r ≡ true) records
   pub belong : All (Belongs layout vertices span partition) records
 

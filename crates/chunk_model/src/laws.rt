@@ -27,7 +27,7 @@ pub fn bytes_tell_chunks<X>()
         → IsChunkAt layout vertices span most partition (length bytes) ((bytes ++ chunk_bytes layout partition records) ++ rest) records }
     ensures width { (layout : Layout X) → IsLayout layout → (partition : ℕ) (records : List X)
         → length (chunk_bytes layout partition records) ≡ chunk_width layout.width (length records) }
-    ensures one { (layout : Layout X) → IsLayout layout → (vertices span most p q at : ℕ) → most < 2 ^ 32 → p < 2 ^ 32 → q < 2 ^ 32
+    ensures one { (layout : Layout X) → IsLayout layout → (vertices span most p q at : ℕ) → p < 2 ^ 32 → q < 2 ^ 32
         → (bytes : List ℕ) (records others : List X) → IsChunkAt layout vertices span most p at bytes records
         → IsChunkAt layout vertices span most q at bytes others → (p ≡ q) × (records ≡ others) }
     ensures all { (layout : Layout X) → IsLayout layout → (made others : List (Chunk X)) → All (IsWritable layout) made

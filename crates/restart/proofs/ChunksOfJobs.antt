@@ -77,6 +77,7 @@ chunk_is job well c is edges below = record {
   are = record {
     some = is.some;
     few = is.few;
+    counted = omega (arith, is.few, well.chunk.1);
     held = All-weaker (IsEdgeOf job) (λ edge. holds_edge job.format edge ≡ true) (λ edge. holds_it job edge well) c.items edges;
     belong = λ k d within. record { fits = fits_it job _ (edges k d within); home = is.of_partition k d within };
   };

@@ -74,11 +74,10 @@ module _ (job : Job) (edges : List Edge) (storable : IsStorable job edges) where
   writable : (c : Chunk Edge) → IsEdgeChunk (head 165 job 0) c → IsWritable layout c
   writable c is =
       let well = storable.job_is in
-      let few : length c.items ≤ job.chunk = subst (λ n. length c.items ≤ n) (head_says job 0 well ChunkSize) is.are.few in
       let below : c.partition < parts_of job = subst (λ n. c.partition < n) (parts_said job 0 well) is.partition in
       record {
         partition = omega (arith, below, well.few_parts);
-        few = omega (arith, few, well.chunk.1);
+        few = is.are.counted;
         held = is.are.held;
       }
 

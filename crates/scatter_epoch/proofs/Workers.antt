@@ -86,6 +86,7 @@ module _ (job : Job) (good : IsWellFormedJob job) (epoch : ℕ) where
   chunk_is split of_job c is = record {
     some = is.0.0.some;
     few = is.0.0.few;
+    counted = let few = is.0.0.few in let most = good.chunk.1 in omega (arith, few, most);
     held = λ k u below. (is.0.1 k u below).holds;
     belong = λ k u below. record {
       fits = lt-ltb (get_or c.1.items k u).dst split.vertices (let dst = (is.0.1 k u below).dst in omega (arith, of_job.vertices, dst));

@@ -185,6 +185,7 @@ unfolding edges
 are_edges_1 = record {
   some = lit< tt;
   few = lit≤ tt;
+  counted = lit< tt;
   held = of_three (λ r. (edge_layout 1).holds r ≡ true) refl refl refl;
   belong = of_three (Belongs (edge_layout 1) 3 3 0) (record { fits = refl; home = refl }) (record { fits = refl; home = refl }) (record { fits = refl; home = refl });
 }
@@ -194,6 +195,7 @@ unfolding edges
 are_edges_2 = record {
   some = lit< tt;
   few = lit≤ tt;
+  counted = lit< tt;
   held = of_three (λ r. (edge_layout 2).holds r ≡ true) refl refl refl;
   belong = of_three (Belongs (edge_layout 2) 3 3 0) (record { fits = refl; home = refl }) (record { fits = refl; home = refl }) (record { fits = refl; home = refl });
 }

@@ -96,7 +96,6 @@ pub fn serve<R: Record, D: Disk>(
     requires table { seat.old.table ≡ from.now.table.now }
     requires once { MayClaim seat.old.view (cursor_of engine partition) }
     requires len { opened_len (cursor_of engine partition) (knows seat.old.view) ≡ length (places_of from.now.index.now engine partition) }
-    requires few { length into.old ≤ 65536 }
     requires room { chunk_width (R.layout from.now.job.now.format).width (length into.old) ≤ length bytes.old }
     ensures table { seat.new.table ≡ seat.old.table }
     ensures later { D.M.faults meter.old ≤ D.M.faults meter.new }

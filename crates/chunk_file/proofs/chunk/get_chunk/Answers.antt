@@ -14,7 +14,7 @@ pub returns-then-bytes-lt-HEAD_SIZE-clause-none : goal.returns-then-bytes-lt-HEA
 returns-then-bytes-lt-HEAD_SIZE-clause-none g c records is =
     let layout = g.R.Record.layout c.args.format in
     let laws = g.met.R.Record.lawful c.args.format in
-    let tells = head_tells layout laws c.args.partition c.args.bytes.now records (omega arith) (omega (arith, is.are.few)) is.stands in
+    let tells = head_tells layout laws c.args.partition c.args.bytes.now records (omega arith) is.are.counted is.stands in
     elim c.then-bytes-lt-HEAD_SIZE.branch [
       | then-bytes-lt-HEAD_SIZE-via-then-bytes-lt-HEAD_SIZE w ↦ absurd (omega (arith, tells.long))
       | then-bytes-lt-HEAD_SIZE-via-else-bytes-lt-HEAD_SIZE+then-u32_at-partition w ↦ w.if-u32_at-partition.true (w.u32_at.ensures ∙ tells.partition)
@@ -24,7 +24,7 @@ pub returns-then-count-eq0-clause-none : goal.returns-then-count-eq0-clause-none
 returns-then-count-eq0-clause-none g c records is =
     let layout = g.R.Record.layout c.args.format in
     let laws = g.met.R.Record.lawful c.args.format in
-    let tells = head_tells layout laws c.args.partition c.args.bytes.now records (omega arith) (omega (arith, is.are.few)) is.stands in
+    let tells = head_tells layout laws c.args.partition c.args.bytes.now records (omega arith) is.are.counted is.stands in
     let many : c.u32_at-count.result ≡ length records = c.u32_at-count.ensures ∙ tells.count in
     elim c.then-count-eq0.branch [
       | then-count-eq0-via-then-count-eq0 w ↦ absurd (omega (arith, many, is.are.some, w.if-count-eq0.true))
@@ -45,7 +45,7 @@ returns-then-not-get_records-clause-none g c records is =
     reads_chunk layout c.args.partition c.u32_at-count.result c.width-width.result c.args.bytes.now read (λ k. omega (arith, c.type_inv.bytes k))
     c.width-width.ensures many (omega (arith, c.if-bytes-width.false)) (sym c.if-u32_at-partition.false ∙ c.u32_at.ensures) c.u32_at-count.ensures c.get_records.ensures.written in
     let same = one_chunk layout laws c.args.partition c.args.partition 0 c.args.bytes.now read records (omega arith) (omega arith)
-    (omega (arith, many)) (omega (arith, is.are.few)) c.get_records.ensures.room is.are.held stands is.stands in
+    (omega (arith, many)) is.are.counted c.get_records.ensures.room is.are.held stands is.stands in
     let test = test_by_belong layout laws split.vertices split.parts split.span c.args.partition _ _ c.requires.split.span (omega arith)
     c.range-first.ensures.first c.range-first.ensures.end read
     (subst (All (Belongs layout split.vertices split.span c.args.partition)) (sym same.1) is.are.belong) in
@@ -74,6 +74,7 @@ returns-clause-found g c =
             are = record {
               some = omega (arith, many, c.if-count-eq0.false);
               few = omega (arith, length-append read rest);
+              counted = omega (arith, many);
               held = c.get_records.ensures.room;
               belong = belong;
             };

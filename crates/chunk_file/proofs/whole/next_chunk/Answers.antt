@@ -29,7 +29,7 @@ returns-then-partition-split-clause-cause g c =
           (NoEdgeChunk c.args.format c.args.split.now most c.args.at) (g.D.Disk.state c.args.disk.now).bytes c.in_ok-room.ensures.read disk.sized
           (λ told read sized. none_read c.args.format c.args.split.now most c.args.at room size buffer told
           read sized c.in_ok-room.ensures.room (omega (arith, c.requires.room, c.read_bytes.auto.bytes))
-          (none_of_others c.args.format c.args.split.now most c.u32_at-partition.result (take room buffer) (omega (arith, c.requires.split.few)) (omega arith)
+          (none_of_others c.args.format c.args.split.now most c.u32_at-partition.result (take room buffer) (omega (arith, c.requires.split.few))
           c.u32_at-partition.ensures (λ below. absurd (omega (arith, c.if-partition-split.true, below))))),
     )
 
@@ -66,6 +66,6 @@ returns-in-None-clause-cause g c =
           (NoEdgeChunk c.args.format c.args.split.now most c.args.at) (g.D.Disk.state c.args.disk.now).bytes c.in_ok-room.ensures.read disk.sized
           (λ told read sized. none_read c.args.format c.args.split.now most c.args.at room size buffer told
           read sized c.in_ok-room.ensures.room (omega (arith, c.requires.room, c.read_bytes.auto.bytes))
-          (none_of_others c.args.format c.args.split.now most c.u32_at-partition.result (take room buffer) (omega (arith, c.requires.split.few)) (omega arith)
+          (none_of_others c.args.format c.args.split.now most c.u32_at-partition.result (take room buffer) (omega (arith, c.requires.split.few))
           c.u32_at-partition.ensures (λ below. c.in-None.ensures.none))),
     )

@@ -19,8 +19,8 @@ pub returns-clause-width : goal.returns-clause-width
 returns-clause-width g c = length-chunk_bytes
 
 pub returns-clause-one : goal.returns-clause-one
-returns-clause-one g c layout laws vertices span most p q at few below below' bytes records others is is' =
-    one_chunk layout laws p q at bytes records others below below' (omega (arith, is.are.few)) (omega (arith, is'.are.few)) is.are.held is'.are.held is.stands is'.stands
+returns-clause-one g c layout laws vertices span most p q at below below' bytes records others is is' =
+    one_chunk layout laws p q at bytes records others below below' is.are.counted is'.are.counted is.are.held is'.are.held is.stands is'.stands
 
 pub returns-clause-all : goal.returns-clause-all
 returns-clause-all g c = same_chunks
