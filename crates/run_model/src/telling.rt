@@ -16,11 +16,13 @@ pub fn ending_of(finish: Finish, limit: u32) -> Ending
         Finish::NotRead(_) => Ending::DiskFault,
         Finish::Stopped(RoundFault::RoundLimit) => Ending::RoundLimit(limit),
         Finish::Stopped(RoundFault::DiskFault) => Ending::DiskFault,
-        Finish::Stopped(RoundFault::Damaged {
-            part,
-            engine,
-            place,
-        }) => Ending::Damaged {
+        Finish::Stopped(
+            RoundFault::Damaged {
+                part,
+                engine,
+                place,
+            },
+        ) => Ending::Damaged {
             part,
             engine,
             place,

@@ -1,3 +1,0 @@
-pub mod ReadingLemmas
-pub mod RunLemmas
-pub mod AnswerLemmas
