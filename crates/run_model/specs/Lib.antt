@@ -6,3 +6,5 @@ pub mod Epochs
 pub mod Standing
 pub mod Stops
 pub mod Runs
+pub mod Resumes
+pub mod Drops
