@@ -174,3 +174,57 @@ run bfs 0 --vertices 4 --limit 2;0 1/1 2/;4;;no fixpoint within 2 rounds/
 run sssp 0 --vertices 3 --limit 2;0 1 5/0 2 1/2 1 1/;4;;no fixpoint within 2 rounds/",
     )
 }
+
+// Calls one after another on the same devices, each with its words and text: what the last one answers, prints and says.
+fn in_turn<R: Threads + Sync>(
+    rt: &R,
+    alloc: Global,
+    engines: u32,
+    calls: &[(&str, &[u8])],
+) -> Result<(u8, MemSink, MemSink), Fail> {
+    let mut store = store_of(alloc, engines)?;
+    let mut meters = meters_of(alloc, engines)?;
+    let (table, mut seat) = CursorTable::new(alloc)?;
+    let mut beat = Beat::new();
+    let mut status = 0;
+    let mut out = MemSink::new(alloc, 100, &[])?;
+    let mut err = MemSink::new(alloc, 100, &[])?;
+    for (words, text) in calls {
+        let words = words_of(alloc, words)?;
+        let mut source = MemSource::new(alloc, text, 100, &[])?;
+        out = MemSink::new(alloc, 100, &[])?;
+        err = MemSink::new(alloc, 100, &[])?;
+        status = chaos(
+            rt,
+            alloc,
+            &words,
+            &mut source,
+            &mut out,
+            &mut err,
+            &mut store,
+            &mut meters,
+            &table,
+            &mut seat,
+            &OpenGate,
+            &mut beat,
+        );
+    }
+    Ok((status, out, err))
+}
+
+#[test]
+fn a_store_is_resumed_and_given_up(rt: HostRuntime) -> Result<(), Fail> {
+    let alloc = rt.alloc();
+    let run: (&str, &[u8]) = ("run sssp 0 --vertices 3", b"0 1 5\n0 2 1\n2 1 1\n");
+    let (status, out, _err) = in_turn(&rt, alloc, 1, &[run, ("resume", b"")])?;
+    assert!(rt; status == 0 && said(&out, b"0 0\n1 2\n2 1\n"));
+    let (status, out, err) = in_turn(&rt, alloc, 1, &[run, run])?;
+    assert!(rt; status == 12 && said(&out, b"") && said(&err, b"store holds a job\n"));
+    let (status, out, _err) = in_turn(&rt, alloc, 1, &[run, ("drop", b"")])?;
+    assert!(rt; status == 0 && said(&out, b""));
+    let (status, out, err) = in_turn(&rt, alloc, 1, &[run, ("drop", b""), ("resume", b"")])?;
+    assert!(rt; status == 8 && said(&out, b"") && said(&err, b"store is not prepared\n"));
+    let (status, out, _err) = in_turn(&rt, alloc, 1, &[run, ("drop", b""), run])?;
+    assert!(rt; status == 0 && said(&out, b"0 0\n1 2\n2 1\n"));
+    Ok(())
+}
