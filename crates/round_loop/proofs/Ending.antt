@@ -30,7 +30,7 @@ use Rattle.round_loop.specs.declared.run.Done.{Done}
 use Rattle.round_loop.specs.declared.fault.RoundFault.{RoundFault}
 use Rattle.round_loop.specs.declared.fault.RoundFault.TheVariants as faulty
 use Rattle.round_loop.specs.Answers.{IsFaultOf}
-use Rattle.round_loop.specs.Starts.{split_for, first_made, first_sent, counts_first, IsLastBegun}
+use Rattle.round_loop.specs.Starts.{split_for, first_made, first_sent, counts_first, epochs_to, IsLastBegun}
 use Rattle.round_loop.specs.Opening.{AreEpochsOf}
 use Rattle.round_loop.specs.Kept.{IsKept}
 use Rattle.round_loop.specs.Keeping.{IsTold, Moment, moment}
@@ -175,7 +175,7 @@ module _ {D M : Type 0} (state : D → DiskState) (faults : M → ℕ) (rules : 
             record {
               are = well.are;
               last = tt;
-              unsettled = λ _. (found.0, subst (λ k. IsKept rules job edges state k new.store.values.items) found.1 (well.kept is_done));
+              unsettled = λ _. (found.0, subst (λ k. length epochs ≡ epochs_to rules start k) found.1 (come.many is_done), subst (λ k. IsKept rules job edges state k new.store.values.items) found.1 (well.kept is_done));
               settles = λ _. refl;
               stored = stored_at edges well;
               any_stop = well.any_stop;

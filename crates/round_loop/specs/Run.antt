@@ -30,8 +30,8 @@ module _ {D M : Type 0} (state : D → DiskState) (rules : Rules) (job : Job) (s
     pub are : AreEpochsOf rules job edges (counts_first rules start) (first_sent start) epochs
     -- the last round stands
     pub last : IfOk result (λ done. IsLastRound rules job.vertices edges job.limit done.round × IsKept rules job edges state done.round new.store.values.items)
-    -- there is none within the limit, and the limit's round stands
-    pub unsettled : IsErrOf result RoundLimit → IsUnsettled rules job.vertices edges job.limit × IsKept rules job edges state job.limit new.store.values.items
+    -- there is none within the limit, and the limit's round stands, which was made or handed in: the run has all epochs to its end
+    pub unsettled : IsErrOf result RoundLimit → IsUnsettled rules job.vertices edges job.limit × (length epochs ≡ epochs_to rules start job.limit) × IsKept rules job edges state job.limit new.store.values.items
     pub settles : IsUnsettled rules job.vertices edges job.limit → IsErr result
     -- the round before the one in which the run has ended stands
     pub stored : (round : ℕ) → IsLastBegun rules start epochs round → IsKept rules job edges state (round - 1) new.store.values.items
