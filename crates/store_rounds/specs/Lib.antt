@@ -1,3 +1,3 @@
 pub mod Images
 pub mod Going
-pub mod Answers
+pub mod Printed

@@ -12,4 +12,4 @@ mod stops;
 
 pub use answers::kept_is_the_answer;
 pub use rounds::{found_is_a_good_start, kept_is_everywhere, rounds_are_the_same};
-pub use stops::left_is_of_a_store;
+pub use stops::{left_is_of_a_store, stop_is_of_each};
