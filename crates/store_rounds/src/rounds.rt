@@ -1,10 +1,9 @@
 //! Laws on the rounds that stand on the values devices. Each stands on the contract of a function that does nothing.
-ghost use Rattle.std.specs.Prelude.{◌≡◌, ◌↔◌, ℕ, ◌^◌, ◌<◌, List, length, map};
+ghost use Rattle.std.specs.Prelude.{◌≡◌, ◌↔◌, ℕ, ◌^◌, ◌<◌, List, length};
 ghost use Rattle.graph_model.specs.declared.edge.Edge.{Edge};
 ghost use Rattle.graph_model.specs.declared.job.Job.{Job};
 ghost use Rattle.graph_model.specs.Jobs.{IsWellFormedJob};
 ghost use Rattle.graph_model.specs.Programs.{rules_of};
-ghost use Rattle.ports.specs.Stops.{AreImages};
 ghost use Rattle.store_model.specs.Kept.{IsReached, HasRound, IsValuesOf, IsEverywhere};
 ghost use Rattle.store_checks.specs.Causes.{Tell};
 ghost use Rattle.restart.specs.declared.recovering.Recovered.{Recovered};
@@ -29,20 +28,19 @@ pub fn rounds_are_the_same()
 /// A round that a run keeps, or that is read of all values devices, stands everywhere in the store: in whichever image
 /// of each device is found, and in what they tell.
 pub fn kept_is_everywhere<D: Disk>()
-    ensures kept { (job : Job) (edges : List Edge) (round : ℕ) (devices : List D) (values : List (List ℕ)) → length devices ≡ job.engines
+    ensures kept { (job : Job) (edges : List Edge) (round : ℕ) (devices : List D) (images : List (List ℕ)) → length devices ≡ job.engines
         → run.IsReached (rules_of job.program) job.vertices edges job.limit round → IsKept (rules_of job.program) job edges D.state round devices
-        → HaveImages D.state devices values → IsEverywhere job edges values round }
-    ensures read { (job : Job) (edges : List Edge) (round : ℕ) (devices : List D) (values : List (List ℕ)) → length devices ≡ job.engines
+        → HaveImages D.state devices images → IsEverywhere job edges images round }
+    ensures read { (job : Job) (edges : List Edge) (round : ℕ) (devices : List D) (told : List (List ℕ)) → length devices ≡ job.engines
         → run.IsReached (rules_of job.program) job.vertices edges job.limit round → IsRead (rules_of job.program) job edges D.state round devices
-        → Tell D.state devices values → IsEverywhere job edges values round }
-    ensures images { (devices : List D) (values : List (List ℕ)) → AreImages (map D.state devices) values → HaveImages D.state devices values }
+        → Tell D.state devices told → IsEverywhere job edges told round }
 {}
 
 /// What is recovered of a store whose values devices tell these bytes is a good start of a run; and where no device has
 /// another image, the round that was found stands in every image.
 pub fn found_is_a_good_start<D: Disk>()
-    ensures good { (job : Job) (edges : List Edge) (devices : List D) (values : List (List ℕ)) (found : Recovered) → IsWellFormedJob job → length devices ≡ job.engines
-        → Tell D.state devices values → Resumes job edges values found → IsGoodStart (rules_of job.program) job edges D.state (start_of found) devices }
-    ensures settled { (job : Job) (edges : List Edge) (devices : List D) (values : List (List ℕ)) (found : Recovered) (round changed : ℕ) → length devices ≡ job.engines
-        → AreSettledAs D.state devices values → Resumes job edges values found → start_of found ≡ At round changed → IsKept (rules_of job.program) job edges D.state round devices }
+    ensures good { (job : Job) (edges : List Edge) (devices : List D) (told : List (List ℕ)) (found : Recovered) → IsWellFormedJob job → length devices ≡ job.engines
+        → Tell D.state devices told → Resumes job edges told found → IsGoodStart (rules_of job.program) job edges D.state (start_of found) devices }
+    ensures settled { (job : Job) (edges : List Edge) (devices : List D) (told : List (List ℕ)) (found : Recovered) (round changed : ℕ) → length devices ≡ job.engines
+        → AreSettledAs D.state devices told → Resumes job edges told found → start_of found ≡ At round changed → IsKept (rules_of job.program) job edges D.state round devices }
 {}
