@@ -9,6 +9,8 @@
 mod answer;
 mod finish;
 mod run;
+#[cfg(test)]
+mod tests;
 
 pub use finish::Finish;
 pub use run::run_job;
