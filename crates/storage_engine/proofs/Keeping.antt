@@ -1,15 +1,13 @@
 -- Calls that keep what is true of every image, one after another.
-use Rattle.std.proofs.Common.{◌≡◌, ◌≢◌, ◌∙◌, ◌⊎◌, ℕ, zero, suc, ◌+◌, ◌-◌, ◌<◌, ◌≤◌, ◌==◌, max, Bool, true, false, List, [], ◌∷◌, ◌++◌, length, take, drop, get_or, Option, Some, None, IfSome, Result, Ok, Err, OnOk, inl, inr, refl, ap, sym, subst, arith}
+use Rattle.std.proofs.Common.{◌≡◌, ◌∙◌, ℕ, zero, suc, ◌+◌, ◌<◌, ◌≤◌, ◌==◌, max, Bool, true, false, List, [], ◌∷◌, ◌++◌, length, drop, get_or, Option, Some, None, IfSome, Result, Ok, Err, OnOk, inl, inr, refl, ap, sym, subst, arith}
 use Rattle.std.proofs.lemmas.Bool.{eqb-true, eqb-false}
-use Rattle.std.proofs.lemmas.List.{ext_get_or, get_or-drop, length-drop, length-append}
-use Rattle.ports.specs.Bytes.{after_write, Torn, CutShort, Same}
+use Rattle.std.proofs.lemmas.List.{ext_get_or, get_or-drop, length-drop}
+use Rattle.ports.specs.Bytes.{after_write, Torn, Same}
 use Rattle.ports.specs.Disk.{DiskState, IsDisk, InEveryImage, IsSettled, Changes, After}
-use Rattle.ports.specs.Stops.{Leaves}
 use Rattle.ports.specs.Told.{AsTold}
 use Rattle.ports.proofs.Parts.{length-torn, after_write-end}
 use Rattle.ports.proofs.Stops.{started, by_one, joined, leaves_now, weaker}
 use Rattle.ports.proofs.Told.{as_told_same, as_told_then, as_told_weaker}
-use Rattle.store_model.specs.Gates.{OPEN}
 use Rattle.store_model.specs.Heads.{IsShutGraph}
 use Rattle.storage_engine.specs.Steps.{Anything, Any, Keeps, Step, IsClosedFront, ShutOrOpened, Appended, Opens}
 

@@ -1,5 +1,5 @@
 -- A source that is read piece by piece, while its edges are given to a maker.
-use Rattle.std.proofs.Common.{◌≡◌, ◌∙◌, ℕ, ◌+◌, ◌<◌, ◌≤◌, ◌⊎◌, inl, inr, List, [], ◌∷◌, ◌++◌, length, take, drop, Option, Some, None, IfSome, Bool, true, false, Result, Ok, Err, refl, sym, ap, subst, arith, nat_lt}
+use Rattle.std.proofs.Common.{◌≡◌, ◌∙◌, ℕ, ◌+◌, ◌<◌, ◌≤◌, inl, inr, List, [], ◌++◌, length, take, drop, Option, Some, None, IfSome, Bool, true, false, Ok, Err, refl, sym, ap, subst, arith, nat_lt}
 use Rattle.std.specs.List.{All}
 use Rattle.std.proofs.lemmas.List.{length-append, length-take, append-nil}
 use Rattle.std.proofs.lemmas.Bool.Decides.{nat_tests}
@@ -14,7 +14,7 @@ use Rattle.graph_model.specs.declared.edge.TextFault.{TextFault}
 use Rattle.graph_model.specs.declared.edge.TextFault.TheVariants as fault
 use Rattle.graph_model.specs.declared.job.Job.{Job}
 use Rattle.graph_model.specs.Programs.{takes_both_directions}
-use Rattle.graph_model.specs.EdgeText.{lines, edges_of_lines, ended_lines, text_limit, refusal_so_far, refused_for, refusal, edges_of_text}
+use Rattle.graph_model.specs.EdgeText.{lines, edges_of_lines, ended_lines, text_limit, refusal_so_far, refused_for, edges_of_text}
 use Rattle.graph_model.specs.Answer.{refusal_of}
 use Rattle.graph_model.proofs.TextLemmas.{edges_of_nothing, refusal-stays, edges_of_lines-storable}
 use Rattle.chunk_file.specs.declared.index.Place.{Place}

@@ -1,5 +1,5 @@
 -- A store is made in one beat, and its gates are opened in the next.
-use Rattle.std.proofs.Common.{◌≡◌, ◌∙◌, ◌⊎◌, ℕ, ◌+◌, ◌<◌, ◌≤◌, List, [], ◌∷◌, ◌++◌, length, get_or, drop, Option, Some, None, IfSome, inl, inr, refl, ap, sym, subst, arith}
+use Rattle.std.proofs.Common.{◌≡◌, ◌∙◌, ◌⊎◌, ℕ, ◌+◌, ◌<◌, ◌≤◌, List, [], ◌∷◌, length, Option, Some, None, IfSome, inl, inr, refl, ap, subst, arith}
 use Rattle.graph_model.specs.declared.edge.Edge.{Edge}
 use Rattle.graph_model.specs.declared.job.Job.{Job}
 use Rattle.graph_model.specs.Answer.{edges, IsAccepted}
@@ -17,7 +17,7 @@ use Rattle.ports.specs.Stops.{Leaves, LeavesByBeat}
 use Rattle.ports.proofs.Stops.{in_turn, by_beat, by_beat_weaker, weaker}
 use Rattle.ports.proofs.Told.{settled_has}
 use Rattle.store_model.specs.Gates.{OPEN}
-use Rattle.store_model.specs.Heads.{IsShutGraph, front, head}
+use Rattle.store_model.specs.Heads.{IsShutGraph, front}
 use Rattle.store_model.specs.Graphs.{graph_with, graph, edge_chunks}
 use Rattle.storage_engine.specs.Steps.{Anything, Step, Opens, Opened, IsClosedFront, ShutOrOpened, HoldsExactly}
 use Rattle.storage_engine.specs.Preparing.{WhilePreparing, HasReadAll, HasPrepareCause, IsMadeGraph}

@@ -1,13 +1,12 @@
-use Rattle.std.proofs.Common.{◌≡◌, ◌∙◌, ◌⊎◌, inl, inr, ℕ, List, [], length, replicate, refl, sym, ap, subst}
+use Rattle.std.proofs.Common.{◌≡◌, ◌∙◌, ◌⊎◌, inl, ℕ, [], length, replicate, sym, ap, subst}
 use Rattle.std.proofs.lemmas.List.{length-replicate}
-use Rattle.graph_model.specs.declared.edge.Edge.{Edge}
 use Rattle.graph_model.specs.declared.job.Job.{Job}
 use Rattle.ports.specs.Faults.{Rose}
 use Rattle.store_model.specs.Heads.{IsShutGraph}
 use Rattle.std.proofs.lemmas.List.{append-nil}
 use Rattle.storage_engine.specs.Making.{AreFew, HasRoomFor, IsMaking, IsFlushed}
 use Rattle.storage_engine.specs.Preparing.{HasReadAll, HasPrepareCause}
-use Rattle.storage_engine.specs.Steps.{Step, Each, OneRose, IsClosedFront}
+use Rattle.storage_engine.specs.Steps.{OneRose, IsClosedFront}
 use Rattle.storage_engine.proofs.Every.{each_then, one_rose_later}
 use Rattle.storage_engine.proofs.Texts.{stopped_by, not_of_text}
 use Rattle.storage_engine.proofs.TwoBeats.{cause_weaker}

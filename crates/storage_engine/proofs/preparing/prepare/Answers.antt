@@ -1,4 +1,4 @@
-use Rattle.std.proofs.Common.{◌≡◌, ◌∙◌, ℕ, length, sym, arith, rules}
+use Rattle.std.proofs.Common.{arith, rules}
 use Rattle.storage_engine.proofs.Ends.{prepared_lent}
 use Rattle.storage_engine.proofs.preparing.prepare.Goals as goal
 

@@ -1,4 +1,4 @@
-use Rattle.std.proofs.Common.{◌≡◌, ◌∙◌, ℕ, ◌+◌, ◌<◌, ◌≤◌, length, Ok, Err, sym, subst, arith}
+use Rattle.std.proofs.Common.{Ok, Err, sym, subst, arith}
 use Rattle.ports.specs.Faults.{Rose}
 use Rattle.store_model.proofs.Growing.{length-graph}
 use Rattle.store_model.specs.Graphs.{edge_chunks}
