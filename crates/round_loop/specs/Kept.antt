@@ -38,11 +38,11 @@ module _ (rules : Rules) (job : Job) (edges : List Edge) where
   abbrev pub Gives : (round e : ℕ) → DiskState → Type 0
   Gives round e disk = (told : List ℕ) × (disk.bytes ≡ Some told) × Holds round e told
 
-  -- where a round is before the first that a run made, it stood in every image of the device at the start
+  -- a round before the first that a run made stood in every image of the device at the start
   abbrev pub HasStood : (first round e : ℕ) → (start : DiskState) → Type 0
   HasStood first round e start = round < first → InEveryImage start (Holds round e)
 
-  -- **A round stands on an engine after a run that made this round first**: a read gives it, and it stands in every image, if it did so at the start or was made since
+  -- **A round stands on an engine after a run, which made this one first**: a read gives it, and it stands in every image, if it did so at the start or was made since
   pub record Stands (first round e : ℕ) (start now : DiskState) : Type 0 where
     pub read : Gives round e now
     pub images : HasStood first round e start → InEveryImage now (Holds round e)
