@@ -1,5 +1,5 @@
 -- The edges of a store, for the rounds.
-use Rattle.std.proofs.Common.{◌≡◌, ◌∙◌, ℕ, zero, suc, ◌+◌, ◌*◌, ◌/◌, ◌%◌, ◌<◌, ◌≤◌, ◌&&◌, nat_lt, Bool, true, false, List, [], ◌∷◌, ◌++◌, length, map, Option, Some, get_or, refl, sym, ap, subst, arith}
+use Rattle.std.proofs.Common.{◌≡◌, ◌∙◌, ℕ, ◌/◌, ◌%◌, ◌<◌, ◌≤◌, ◌==◌, ◌&&◌, nat_lt, Bool, true, false, List, [], ◌∷◌, length, Some, get_or, refl, sym, ap, subst, arith}
 use Rattle.std.specs.Prelude.{slice_get, option_and_then}
 use Rattle.std.specs.List.{All}
 use Rattle.std.proofs.lemmas.Bool.{ltb-true, ltb-false, le-ltb}
@@ -15,8 +15,7 @@ use Rattle.partitioner.specs.declared.split.Split.{Split}
 use Rattle.partitioner.specs.Splits.{IsSplitOf}
 use Rattle.chunk_object.specs.Epochs.{cursor_of}
 use Rattle.chunk_model.specs.Chunks.{Chunk, chunks_of_partition}
-use Rattle.chunk_model.specs.Layout.{Layout, edge_layout}
-use Rattle.chunk_model.specs.ChunkBytes.{StandsAt, chunk_bytes, bytes_of_chunks}
+use Rattle.chunk_model.specs.Layout.{edge_layout}
 use Rattle.chunk_model.proofs.Made.{all_items_of}
 use Rattle.chunk_file.specs.declared.index.Place.{Place}
 use Rattle.chunk_file.specs.Places.{places_of, on_graph, no_places}
@@ -38,6 +37,7 @@ use Rattle.epoch_laws.proofs.Edges.{edges_stand as shelf_stands}
 use Rattle.restart.specs.Storable.{IsEdgeOf, IsStorable}
 use Rattle.restart.proofs.ChunksOfJobs.{on_engine_are, says_own}
 use Rattle.restart.proofs.SplitOfHead.{says_split, from_head}
+use Rattle.round_steps.specs.Standing.{HasEdges}
 use Rattle.store_edges.proofs.Cursors.{IsNarrow, cursor_chunks}
 use Rattle.store_edges.proofs.Stands.{as_many, stands_there}
 
@@ -47,9 +47,6 @@ some_of [] e below = absurd (omega arith)
 some_of (d ∷ ds) e below = d
 
 module _ (job : Job) (edges : List Edge) (storable : IsStorable job edges) (split : Split) (of_job : IsSplitOf job split) (index : List (List Place)) (has : HasPlaces job (edge_chunks job edges) index) where
-  layout : Layout Edge
-  layout = edge_layout job.format
-
   -- the chunks of an engine, and of a partition among them
   abbrev all_on : (e : ℕ) → List (Chunk Edge)
   all_on e = chunks_on job e (edge_chunks job edges)
@@ -57,7 +54,7 @@ module _ (job : Job) (edges : List Edge) (storable : IsStorable job edges) (spli
   abbrev mine : (e p : ℕ) → List (Chunk Edge)
   mine e p = chunks_of_partition p (all_on e)
 
-  pub within : IsWithinGraph job.vertices edges
+  within : IsWithinGraph job.vertices edges
   within = All-weaker (IsEdgeOf job) (λ (edge : Edge). (edge.src < job.vertices) × (edge.dst < job.vertices)) (λ edge is. (is.src, is.dst)) edges storable.edges_are
 
   below : All (StandsBelow job.engines (parts_of job)) (edge_shelf job edges)
@@ -77,7 +74,7 @@ module _ (job : Job) (edges : List Edge) (storable : IsStorable job edges) (spli
       ∙ as_many (edge_layout job.format) p HEAD_SIZE (all_on e)
       ∙ ap length (sym (cursor_is e p small))
 
-  pub lens : (cursor : ℕ) → lens_of index cursor ≡ shelves.lens_of (edge_shelf job edges) cursor
+  lens : (cursor : ℕ) → lens_of index cursor ≡ shelves.lens_of (edge_shelf job edges) cursor
   lens cursor = by (nat_lt cursor 512) refl
     where
       by : (near : Bool) → nat_lt cursor 512 ≡ near → lens_of index cursor ≡ shelves.lens_of (edge_shelf job edges) cursor
@@ -99,7 +96,7 @@ module _ (job : Job) (edges : List Edge) (storable : IsStorable job edges) (spli
       All-weaker (damage.IsEdgeChunk (head 165 job 0)) (IsEdgeChunk job.format split job.chunk) (from_head (head 165 job 0) job split says) (all_on e) (on_engine_are job edges e storable)
 
   -- **The t-th chunk of a cursor stands at its t-th place.**
-  pub stands_at : (e p t : ℕ) → e < job.engines → p < split.parts → t < length (places_of index e p) →
+  stands_at : (e p t : ℕ) → e < job.engines → p < split.parts → t < length (places_of index e p) →
       IsChunkIn (edge_layout job.format) split job.chunk p (place_at index e p t).at (graph job edges e) (records_at (edge_shelf job edges) (cursor_of e p) t)
   unfolding graph_with
   stands_at e p t engine partition inside =
@@ -120,10 +117,19 @@ module _ (job : Job) (edges : List Edge) (storable : IsStorable job edges) (spli
       subst (λ at. IsChunkIn (edge_layout job.format) split job.chunk p at (graph job edges e) (records_at (edge_shelf job edges) (cursor_of e p) t)) (sym place)
       (subst (λ (cs : List (Chunk Edge)). IsChunkIn (edge_layout job.format) split job.chunk p (get_or starts t 0) (graph job edges e) (get_or cs t no_chunk).items) (sym (cursor_is e p small)) chunk_is)
 
--- What each graph device tells.
-module _ {D : Type 0} (state : D → DiskState) (job : Job) (edges : List Edge) (graphs : List D) (many : length graphs ≡ job.engines) (tell : (e : ℕ) (d : D) → e < job.engines → (state (get_or graphs e d)).bytes ≡ Some (graph job edges e)) where
-  pub told : (e : ℕ) → e < job.engines → option_and_then (λ (disk : D). (state disk).bytes) (slice_get graphs e) ≡ Some (graph job edges e)
+module _ {D : Type 0} (state : D → DiskState) (job : Job) (edges : List Edge) (graphs : List D) (many : length graphs ≡ job.engines)
+    (tell : (e : ℕ) (d : D) → e < job.engines → (state (get_or graphs e d)).bytes ≡ Some (graph job edges e)) where
+  -- what each graph device tells
+  told : (e : ℕ) → e < job.engines → option_and_then (λ (disk : D). (state disk).bytes) (slice_get graphs e) ≡ Some (graph job edges e)
   told e engine =
-      let within : e < length graphs = omega (arith, engine, many) in
-      let d : D = some_of graphs e within in
-      ap (option_and_then (λ (disk : D). (state disk).bytes)) (slice_get-get_or graphs e d within) ∙ tell e d engine
+      let there : e < length graphs = omega (arith, engine, many) in
+      let d : D = some_of graphs e there in
+      ap (option_and_then (λ (disk : D). (state disk).bytes)) (slice_get-get_or graphs e d there) ∙ tell e d engine
+
+  -- **These are the edges of the store.**
+  pub has_edges : IsStorable job edges → (split : Split) → IsSplitOf job split → (index : List (List Place)) → HasPlaces job (edge_chunks job edges) index → HasEdges state job split index graphs edges
+  has_edges storable split of_job index has = record {
+    within = within job edges storable split of_job index has;
+    lens = lens job edges storable split of_job index has;
+    stand = λ e p t engine partition inside. (graph job edges e, told e engine, stands_at job edges storable split of_job index has e p t engine partition inside);
+  }

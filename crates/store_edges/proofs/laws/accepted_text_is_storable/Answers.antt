@@ -1,4 +1,3 @@
-use Rattle.std.proofs.Common.{arith}
 use Rattle.store_edges.proofs.Accepted.{edges_within, storable_text}
 use Rattle.store_edges.proofs.laws.accepted_text_is_storable.Goals as goal
 
