@@ -38,6 +38,8 @@ pub fn chaos<R: Threads + Sync, S: Source, K: Sink, E: Sink, D: Disk, G: Gate + 
     requires table { seat.old.table ≡ table.now }
     requires beat { beat.old ≤ 2 ^ 63 }
     ensures table { seat.new.table ≡ seat.old.table }
+    // Whatever the ending, a further call may be made of a command of as many engines.
+    ensures ready { IsReady D.state (engines_of (command_of (map string_bytes words.now))) (moment store.new meters.new.items seat.new.view beat.new) }
     ensures outcome { (ending : Ending)
         × IsOutcome D.state D.M.faults (record {
           text = S.left source.old;

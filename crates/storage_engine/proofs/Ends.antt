@@ -147,6 +147,7 @@ prepared_first state job text left number read graphs graphs' values values' fau
   accepted = tt;
   whole = tt;
   indexed = tt;
+  all_read = λ now. absurd (omega (arith, now));
   any_moment = graphs_first state job text number graphs graphs' many steps;
   any_moment_of_values = blanks_first state job number values values' many' steps';
   shut = λ of_text e d below. shut of_text e d (omega (arith, below, many, steps.many));
@@ -178,6 +179,7 @@ prepared_second state job text left number read graphs mids graphs' values value
       accepted = read_as_promised job text left es read_all;
       whole = made_graphs state job text left es index graphs' read_all made;
       indexed = places_as_promised job text left es index read_all flushed.places;
+      all_read = λ now. read_as_promised job text left es read_all;
       any_moment = graphs_second state job text left es index number graphs mids graphs' laws many mid_beats steps read_all flushed opens;
       any_moment_of_values = blanks_second state job number values values' laws many' new_beats steps' blank;
       shut = tt;
@@ -208,6 +210,7 @@ prepared_opening_failed state job text left number read graphs mids graphs' valu
       accepted = tt;
       whole = tt;
       indexed = tt;
+      all_read = λ now. read_as_promised job text left es read_all;
       any_moment = graphs_second state job text left es index number graphs mids graphs' laws many mid_beats steps read_all flushed opens;
       any_moment_of_values = blanks_second state job number values values' laws many' new_beats steps' blank;
       shut = λ of_text. absurd of_text;

@@ -104,6 +104,8 @@ pub record Prepares {X : Type 0} (state : X → DiskState) (job : Job) (text lef
   pub accepted : OnOk result (IfSome text (λ told. IsAccepted job told × (left ≡ Some [])))
   pub whole : OnOk result (IfSome text (λ told. (e : ℕ) (d : X) → e < job.engines → IsMadeGraph job told e (state (slice_index_or graphs' e d))))
   pub indexed : IfOk result (λ index. IfSome text (λ told. HasPlaces job (edge_chunks job (edges job told)) index))
+  -- in the second beat all of it was read, also where an opening of a gate then failed
+  pub all_read : now ≡ number + 1 → IfSome text (λ told. IsAccepted job told × (left ≡ Some []))
   -- what a stop leaves, at any moment
   pub any_moment : (e : ℕ) (d : X) → e < job.engines → LeavesByBeat (state (slice_index_or graphs e d)) (state (slice_index_or graphs' e d))
       (λ b c. b ≤ now → WhilePreparing job text (number + 1) e (state (slice_index_or graphs e d)) b c)
