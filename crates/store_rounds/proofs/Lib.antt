@@ -1,6 +1,6 @@
 pub mod Places
 pub mod Onward
-pub mod Rounds
+pub mod SameRounds
 pub mod SlotBytes
 pub mod Left
 pub mod Starting
