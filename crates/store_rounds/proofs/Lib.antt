@@ -6,3 +6,4 @@ pub mod Left
 pub mod Starting
 pub mod Answering
 pub mod Stores
+pub mod Beginning
