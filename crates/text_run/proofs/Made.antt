@@ -67,7 +67,7 @@ module _ {D M : Type 0} (state : D → DiskState) (job : Job) (well : IsWellForm
   -- the room that rounds are made in
   pub is_store : IsStore state (split_for job) now new
   is_store = record {
-    graphs = prepares.many.0;
+    graphs = let is = new.graphs.ok.0 in omega (arith, is, prepares.many.0);
     values = values_made state job text left number now read old new (Ok index) prepares lanes_kept spills_kept meters seat ready;
     sizes = λ e d below. (prepares.blank e d below).size;
     lanes = lanes_made state job text left number now read old new (Ok index) prepares lanes_kept spills_kept meters seat ready;
