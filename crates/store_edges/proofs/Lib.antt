@@ -1,0 +1,4 @@
+pub mod Cursors
+pub mod Stands
+pub mod Accepted
+pub mod Standing
