@@ -39,8 +39,8 @@ module _ {D M : Type 0} (state : D → DiskState) where
     pub between : IsBetweenEpochs moment.seat
 
   -- every device tells its bytes, and these are those of the graph devices
-  pub record Tells (store : Store D M) (graphs : List (List ℕ)) : Type 0 where
-    pub graphs : Tell state store.graphs.items graphs
+  pub record Tells (store : Store D M) (told : List (List ℕ)) : Type 0 where
+    pub graphs : Tell state store.graphs.items told
     pub others : IsTold state store
 
   -- of what the graph devices tell, where all devices tell their bytes

@@ -1,16 +1,15 @@
 -- What is printed of a round that is read.
-use Rattle.std.proofs.Common.{◌≡◌, ℕ, ◌+◌, ◌^◌, ◌<◌, ◌≤◌, ◌==◌, if◌then◌else◌, zero, suc, Bool, true, false, Option, Some, None, List, [], ◌∷◌, ◌++◌, length, take, drop, get_or, refl, sym, ◌∙◌, ap, subst, arith}
+use Rattle.std.proofs.Common.{◌≡◌, ℕ, ◌^◌, ◌<◌, ◌≤◌, ◌==◌, if◌then◌else◌, zero, suc, Bool, true, false, Option, Some, None, List, [], ◌∷◌, ◌++◌, length, take, drop, get_or, refl, ◌∙◌, ap, arith}
 use Rattle.std.specs.Prelude.{slice_get, option_and_then}
-use Rattle.std.proofs.lemmas.List.{take-append-drop, append-nil}
+use Rattle.std.proofs.lemmas.List.{take-append-drop}
 use Rattle.graph_model.specs.declared.edge.Edge.{Edge}
-use Rattle.graph_model.specs.declared.value.Value.{Value}
 use Rattle.graph_model.specs.declared.job.Job.{Job}
 use Rattle.graph_model.specs.declared.job.Program.{Program}
 use Rattle.graph_model.specs.declared.job.Program.TheVariants.{Bfs, Labels, Sssp, Degrees, PageRank}
 use Rattle.graph_model.specs.Jobs.{IsWellFormedJob}
 use Rattle.graph_model.specs.Programs.{rules_of, shows_side}
 use Rattle.graph_model.specs.Rounds.{IsLastRound, IsWithinGraph, values}
-use Rattle.graph_model.specs.Answer.{IsAnswer, text_of_values}
+use Rattle.graph_model.specs.Answer.{text_of_values}
 use Rattle.graph_model.proofs.RoundLemmas.{length-values}
 use Rattle.gather_laws.specs.Laws.{HaveRoom, IsCapped, IsCappedOrNone}
 use Rattle.gather_laws.proofs.RoomLemmas.{values_fit}
@@ -23,7 +22,7 @@ use Rattle.store_model.specs.Slots.{slot_of}
 use Rattle.apply_round.proofs.Desks.{any_of}
 use Rattle.round_loop.specs.Starts.{split_for}
 use Rattle.round_loop.specs.Kept.{IsRead}
-use Rattle.answer_lines.specs.Values.{HoldValues, told_by}
+use Rattle.answer_lines.specs.Values.{HoldValues}
 use Rattle.answer_lines.specs.Printing.{PrintsAll, PrintsFront}
 use Rattle.answer_lines.proofs.Answered.{prints_these, prints_front_of_these}
 use Rattle.store_rounds.specs.Printed.{AnswerPrinted, FrontPrinted}

@@ -1,17 +1,17 @@
 -- What a stop leaves of a run, as what a store may hold.
-use Rattle.std.proofs.Common.{◌≡◌, ℕ, ◌+◌, ◌-◌, ◌^◌, ◌<◌, ◌≤◌, ◌⊎◌, zero, suc, List, length, get_or, inl, inr, refl, sym, ◌∙◌, ap, subst, arith}
+use Rattle.std.proofs.Common.{◌≡◌, ℕ, ◌+◌, ◌-◌, ◌^◌, ◌<◌, ◌≤◌, ◌⊎◌, zero, suc, List, length, get_or, inl, inr, sym, ◌∙◌, subst, arith}
 use Rattle.graph_model.specs.declared.edge.Edge.{Edge}
 use Rattle.graph_model.specs.declared.job.Job.{Job}
 use Rattle.graph_model.specs.Jobs.{IsWellFormedJob}
 use Rattle.graph_model.specs.Programs.{rules_of}
 use Rattle.ports.specs.Disk.{DiskState, InEveryImage}
 use Rattle.store_model.specs.Slots.{slot_of, slot_bytes, IsClosed, IsBlank}
-use Rattle.store_model.specs.Kept.{own_of, own_vertices, changed_in, values_of, round_values, device, HasRound, IsValuesOf}
+use Rattle.store_model.specs.Kept.{own_of, own_vertices, changed_in, values_of, round_values, device, HasRound, IsValuesOf, IsEverywhere}
 use Rattle.apply_round.proofs.Desks.{any_of}
 use Rattle.round_loop.specs.Kept.{HasStood, Left, SlotLeft}
 use Rattle.store_rounds.specs.Images.{IsStopOfEach}
-use Rattle.store_rounds.specs.Going.{LeaveRounds}
-use Rattle.store_rounds.proofs.Rounds.{reached_in_store, held_in_store, known_round}
+use Rattle.store_rounds.specs.Going.{LeaveRounds, LeaveRoundsSince}
+use Rattle.store_rounds.proofs.SameRounds.{reached_in_store, held_in_store, known_round}
 use Rattle.store_rounds.proofs.SlotBytes.{closed_still, held_still}
 
 module _ (job : Job) (edges : List Edge) (e : ℕ) where
@@ -70,3 +70,15 @@ pub all_left : {D : Type 0} (state : D → DiskState) (job : Job) (edges : List 
 all_left state job edges number first last b old new stopped many at_start leave within stop e below =
     let d = any_of old e (omega (arith, below, many)) in
     left_is job edges e number first b (state (get_or old e d)) (device stopped e) (at_start e d below) (left_at state job edges number first last b old new stopped many leave within stop e d below)
+
+-- **And the round before the one that is made, on all of them.**
+pub all_before : {D : Type 0} (state : D → DiskState) (job : Job) (edges : List Edge) (number first last b round : ℕ) (early old new : List D) (stopped : List (List ℕ)) → IsWellFormedJob job → length early ≡ job.engines
+    → ((e : ℕ) (d : D) → e < job.engines → InEveryImage (state (get_or old e d)) (IsValuesOf job edges e)) → ((e : ℕ) (d : D) → e < job.engines → (state (get_or early e d)).moment ≤ (state (get_or old e d)).moment)
+    → ((e : ℕ) (d : D) → e < job.engines → HasStood (rules_of job.program) job edges first (round - 1) e (state (get_or old e d))) → LeaveRoundsSince state job edges number first last old new
+    → first ≤ round → 1 ≤ round → round ≤ 2 ^ 64 → b ≡ number + 1 + (round - first) → b ≤ last → IsStopOfEach state b early new stopped → IsEverywhere job edges stopped (round - 1)
+all_before state job edges number first last b round early old new stopped well many at_start later stood leave from some few beat within stop e below =
+    let here : e < length early = omega (arith, below, many) in
+    let d = any_of early e here in
+    before_is job edges e number first b (state (get_or old e d)) (device stopped e) (at_start e d below)
+    (leave e d b (state (get_or early e d)).moment (device stopped e) below (omega (arith, beat)) within (later e d below) (stop.each e d here))
+    round well from some few beat (stood e d below)

@@ -1,5 +1,5 @@
 -- What stands on devices, and what a run begins with.
-use Rattle.std.proofs.Common.{◌≡◌, ℕ, zero, suc, ◌+◌, ◌-◌, ◌<◌, ◌≤◌, Some, IfSome, List, length, map, get_or, sum_by, inl, inr, refl, sym, ◌∙◌, ap, subst, arith}
+use Rattle.std.proofs.Common.{◌≡◌, ℕ, ◌-◌, ◌<◌, ◌≤◌, Some, List, length, get_or, sum_by, refl, sym, ◌∙◌, ap, subst, arith}
 use Rattle.std.specs.List.{range_with_len}
 use Rattle.graph_model.specs.declared.edge.Edge.{Edge}
 use Rattle.graph_model.specs.declared.job.Job.{Job}
@@ -7,9 +7,9 @@ use Rattle.graph_model.specs.Jobs.{IsWellFormedJob}
 use Rattle.graph_model.specs.Programs.{rules_of}
 use Rattle.ports.specs.Disk.{DiskState, IsDisk, InEveryImage}
 use Rattle.ports.proofs.Told.{present_at}
-use Rattle.partitioner.specs.Splits.{IsSplit, IsSplitOf}
+use Rattle.partitioner.specs.Splits.{IsSplit}
 use Rattle.partitioner.proofs.Made.{some_part, job-is_split}
-use Rattle.store_model.specs.Kept.{own_vertices, changed_in, device, IsReached, HasRound, IsEverywhere, IsKeptRound}
+use Rattle.store_model.specs.Kept.{own_vertices, device, IsReached, HasRound, IsEverywhere}
 use Rattle.store_checks.specs.Causes.{Tell}
 use Rattle.apply_round.proofs.Desks.{any_of}
 use Rattle.apply_round.proofs.Shares as shares
@@ -18,14 +18,14 @@ use Rattle.restart.specs.declared.recovering.Recovered.TheVariants as recovered
 use Rattle.restart.specs.Resuming.{Resumes, changed_of_all}
 use Rattle.round_steps.specs.Going as going
 use Rattle.round_loop.specs.declared.run.Start.{Start}
-use Rattle.round_loop.specs.declared.run.Start.TheVariants.{Fresh, At}
+use Rattle.round_loop.specs.declared.run.Start.TheVariants.{At}
 use Rattle.round_loop.specs.Starts as run
-use Rattle.round_loop.specs.Starts.{split_for}
+use Rattle.round_loop.specs.Starts.{split_for, first_made}
 use Rattle.round_loop.specs.Kept as rounds
-use Rattle.round_loop.specs.Kept.{Holds, Gives, IsKept, IsRead, IsGoodStart}
+use Rattle.round_loop.specs.Kept.{Holds, HasStood, IsKept, IsRead, IsGoodStart, StandsAfter}
 use Rattle.store_rounds.specs.Images.{HaveImages, AreSettledAs}
 use Rattle.store_rounds.specs.Going.{start_of}
-use Rattle.store_rounds.proofs.Rounds.{changed_same, reached_by_run, reached_in_store, held_by_run, held_in_store}
+use Rattle.store_rounds.proofs.SameRounds.{changed_same, reached_by_run, held_by_run, held_in_store}
 
 -- The split of a job is one.
 pub job_split : (job : Job) → IsWellFormedJob job → IsSplit (split_for job)
@@ -54,7 +54,8 @@ module _ {D : Type 0} (state : D → DiskState) (job : Job) (edges : List Edge) 
       let d : D = any_of devices e within in
       let gives = read e d below in
       let same : Some gives.0 ≡ Some (device values e) = sym gives.1 ∙ tell.told e d within in
-      held_in_store job edges e round (device values e) reached (subst (Holds (rules_of job.program) job edges round e) cc gives.2)
+      let same_bytes : gives.0 ≡ device values e = cc in
+      held_in_store job edges e round (device values e) reached (subst (λ bytes. Holds (rules_of job.program) job edges round e bytes) same_bytes gives.2)
 
   -- what stands everywhere in what devices tell is read
   told_is_read : (round : ℕ) (devices : List D) (values : List (List ℕ)) → length devices ≡ job.engines → Tell state devices values → IsEverywhere job edges values round → IsRead (rules_of job.program) job edges state round devices
@@ -92,3 +93,16 @@ module _ {D : Type 0} (state : D → DiskState) (job : Job) (edges : List Edge) 
   kept_is_read lawful round devices many tell kept e d below =
       let told = tell e d (omega (arith, many, below)) in
       (told.0, told.1, kept e d below told.0 (present_at (state (get_or devices e d)) told.0 (lawful (get_or devices e d)) told.1))
+
+  -- what stands after a run is kept, where it was made or was kept before
+  pub kept_after : (start : Start) (round : ℕ) (old new : List D) → ((e : ℕ) (d : D) → e < job.engines → HasStood (rules_of job.program) job edges (first_made start) round e (state (get_or old e d))) → StandsAfter (rules_of job.program) job edges state start round old new
+      → IsKept (rules_of job.program) job edges state round new
+  kept_after start round old new stood stands e d below = (stands e d below).images (stood e d below)
+
+  pub kept_from_found : (found changed round : ℕ) (old new : List D) → IsKept (rules_of job.program) job edges state found old → found ≤ round → StandsAfter (rules_of job.program) job edges state (At found changed) round old new
+      → IsKept (rules_of job.program) job edges state round new
+  kept_from_found found changed round old new kept from stands = kept_after (At found changed) round old new
+      (λ e d below before.
+      let same : found ≡ round = omega (arith, before, from) in
+      subst (λ r. InEveryImage (state (get_or old e d)) (Holds (rules_of job.program) job edges r e)) same (kept e d below))
+      stands

@@ -1,5 +1,5 @@
 -- Whole stores at a stop, and the round that is kept there.
-use Rattle.std.proofs.Common.{◌≡◌, ℕ, ◌+◌, ◌-◌, ◌^◌, ◌<◌, ◌≤◌, List, [], length, map, get_or, inl, inr, refl, sym, ◌∙◌, ap, subst, arith}
+use Rattle.std.proofs.Common.{◌≡◌, ℕ, ◌+◌, ◌-◌, ◌^◌, ◌<◌, ◌≤◌, List, length, map, get_or, inl, inr, refl, sym, ◌∙◌, subst, arith}
 use Rattle.std.proofs.lemmas.Bool.{cases_lt}
 use Rattle.graph_model.specs.declared.edge.Edge.{Edge}
 use Rattle.graph_model.specs.declared.job.Job.{Job}
@@ -18,7 +18,7 @@ use Rattle.round_loop.specs.Kept.{Holds, HasStood}
 use Rattle.store_rounds.specs.Images.{AreSettledAs, IsStopOfEach}
 use Rattle.store_rounds.specs.Going.{LeaveRounds}
 use Rattle.store_rounds.proofs.Places.{tuple_with, told_images, are_images}
-use Rattle.store_rounds.proofs.Rounds.{held_by_run}
+use Rattle.store_rounds.proofs.SameRounds.{held_by_run}
 use Rattle.store_rounds.proofs.Left.{left_at, all_left, before_is}
 
 graph_open : (job : Job) (edges : List Edge) (e : ℕ) → IsOpenGraph (graph job edges e)

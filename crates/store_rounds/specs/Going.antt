@@ -20,3 +20,8 @@ start_of (recovered.Fresh job index) = Fresh
 abbrev pub LeaveRounds : {D : Type 0} → (state : D → DiskState) → Job → List Edge → (number first last : ℕ) → (old new : List D) → Type 0
 LeaveRounds {D} state job edges number first last old new = (e : ℕ) (d : D) → e < job.engines → LeavesByBeat (state (slice_index_or old e d)) (state (slice_index_or new e d))
     (λ b bytes. b ≤ last → Left (rules_of job.program) job edges number first e (state (slice_index_or old e d)) b bytes)
+
+-- the same of a stop in a beat after that of this number, from whatever moment on it is counted
+abbrev pub LeaveRoundsSince : {D : Type 0} → (state : D → DiskState) → Job → List Edge → (number first last : ℕ) → (old new : List D) → Type 0
+LeaveRoundsSince {D} state job edges number first last old new = (e : ℕ) (d : D) (b t : ℕ) (c : List ℕ) → e < job.engines → number < b → b ≤ last
+    → t ≤ (state (slice_index_or old e d)).moment → (state (slice_index_or new e d)).stops b t c → Left (rules_of job.program) job edges number first e (state (slice_index_or old e d)) b c

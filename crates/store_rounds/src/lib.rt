@@ -8,10 +8,12 @@
 
 mod answers;
 mod images;
+mod made;
 mod rounds;
 mod stops;
 
 pub use answers::kept_is_the_answer;
 pub use images::{images_are_of_each, stop_is_of_each};
-pub use rounds::{found_is_a_good_start, kept_is_everywhere, rounds_are_the_same};
-pub use stops::{found_is_not_lost, left_is_of_a_store, stop_is_of_a_store};
+pub use made::made_is_of_a_store;
+pub use rounds::{found_is_a_good_start, kept_is_everywhere, rounds_are_the_same, stands_is_kept};
+pub use stops::{found_is_not_lost, left_is_of_a_store, made_is_not_lost, stop_is_of_a_store};

@@ -1,5 +1,5 @@
 //! Laws on the rounds that stand on the values devices. Each stands on the contract of a function that does nothing.
-ghost use Rattle.std.specs.Prelude.{◌≡◌, ◌↔◌, ℕ, ◌^◌, ◌<◌, List, length};
+ghost use Rattle.std.specs.Prelude.{◌≡◌, ◌↔◌, ℕ, ◌^◌, ◌<◌, ◌≤◌, List, length};
 ghost use Rattle.graph_model.specs.declared.edge.Edge.{Edge};
 ghost use Rattle.graph_model.specs.declared.job.Job.{Job};
 ghost use Rattle.graph_model.specs.Jobs.{IsWellFormedJob};
@@ -8,9 +8,10 @@ ghost use Rattle.store_model.specs.Kept.{IsReached, HasRound, IsValuesOf, IsEver
 ghost use Rattle.store_checks.specs.Causes.{Tell};
 ghost use Rattle.restart.specs.declared.recovering.Recovered.{Recovered};
 ghost use Rattle.restart.specs.Resuming.{Resumes};
-ghost use Rattle.round_loop.specs.declared.run.Start.TheVariants.{At};
+ghost use Rattle.round_loop.specs.declared.run.Start.{Start};
+ghost use Rattle.round_loop.specs.declared.run.Start.TheVariants.{Fresh, At};
 ghost use Rattle.round_loop.specs.Starts as run;
-ghost use Rattle.round_loop.specs.Kept.{Holds, IsKept, IsRead, IsGoodStart};
+ghost use Rattle.round_loop.specs.Kept.{Holds, IsKept, IsRead, IsGoodStart, StandsAfter};
 ghost use Rattle.store_rounds.specs.Images.{HaveImages, AreSettledAs};
 ghost use Rattle.store_rounds.specs.Going.{start_of};
 
@@ -43,4 +44,15 @@ pub fn found_is_a_good_start<D: Disk>()
         → Tell D.state devices told → Resumes job edges told found → IsGoodStart (rules_of job.program) job edges D.state (start_of found) devices }
     ensures settled { (job : Job) (edges : List Edge) (devices : List D) (told : List (List ℕ)) (found : Recovered) (round changed : ℕ) → length devices ≡ job.engines
         → AreSettledAs D.state devices told → Resumes job edges told found → start_of found ≡ At round changed → IsKept (rules_of job.program) job edges D.state round devices }
+{}
+
+/// A round that stands after a run is read; and it is kept, in every image, where the run began at the beginning, or at an
+/// earlier or the same round that was kept.
+pub fn stands_is_kept<D: Disk>()
+    ensures read { (job : Job) (edges : List Edge) (start : Start) (round : ℕ) (old new : List D) → StandsAfter (rules_of job.program) job edges D.state start round old new
+        → IsRead (rules_of job.program) job edges D.state round new }
+    ensures fresh { (job : Job) (edges : List Edge) (round : ℕ) (old new : List D) → StandsAfter (rules_of job.program) job edges D.state Fresh round old new
+        → IsKept (rules_of job.program) job edges D.state round new }
+    ensures found { (job : Job) (edges : List Edge) (found changed round : ℕ) (old new : List D) → IsKept (rules_of job.program) job edges D.state found old → found ≤ round
+        → StandsAfter (rules_of job.program) job edges D.state (At found changed) round old new → IsKept (rules_of job.program) job edges D.state round new }
 {}

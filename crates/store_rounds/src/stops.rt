@@ -11,7 +11,7 @@ ghost use Rattle.store_model.specs.Kept.{own_of, device, HasRound, IsValuesOf, I
 ghost use Rattle.store_checks.specs.Causes.{Tell};
 ghost use Rattle.round_loop.specs.Kept.{HasStood, Left};
 ghost use Rattle.store_rounds.specs.Images.{AreSettledAs};
-ghost use Rattle.store_rounds.specs.Going.{LeaveRounds};
+ghost use Rattle.store_rounds.specs.Going.{LeaveRounds, LeaveRoundsSince};
 
 use ports::Disk;
 
@@ -48,4 +48,15 @@ pub fn found_is_not_lost<D: Disk>()
         → AreSettledAs D.state old told → ((e : ℕ) → e < job.engines → IsValuesOf job edges e (device told e)) → IsEverywhere job edges told round
         → LeaveRounds D.state job edges number (round + 1) last old new → b ≤ last → last ≤ number + 2 ^ 63 → IsStop b (map D.state old) (map D.state new) stopped
         → (later : ℕ) × (round ≤ later) × IsEverywhere job edges stopped later }
+{}
+
+/// In the beat in which a run makes a round, the round before it stands everywhere after a stop, also where the stop is
+/// counted from before the run: where the round before was made by this run, or stood in every image at its start.
+pub fn made_is_not_lost<D: Disk>()
+    ensures { (job : Job) (edges : List Edge) (number first last b round : ℕ) (early old new : List D) (stopped : List (List ℕ)) → IsWellFormedJob job → length early ≡ job.engines
+        → ((e : ℕ) (d : D) → e < job.engines → InEveryImage (D.state (slice_index_or old e d)) (IsValuesOf job edges e))
+        → ((e : ℕ) (d : D) → e < job.engines → (D.state (slice_index_or early e d)).moment ≤ (D.state (slice_index_or old e d)).moment)
+        → ((e : ℕ) (d : D) → e < job.engines → HasStood (rules_of job.program) job edges first (round - 1) e (D.state (slice_index_or old e d)))
+        → LeaveRoundsSince D.state job edges number first last old new → first ≤ round → 1 ≤ round → round ≤ 2 ^ 64 → b ≡ number + 1 + (round - first) → b ≤ last
+        → IsStop b (map D.state early) (map D.state new) stopped → IsEverywhere job edges stopped (round - 1) }
 {}

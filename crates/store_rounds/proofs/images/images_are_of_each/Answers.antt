@@ -1,6 +1,4 @@
 -- By places, and with another image of one device.
-use Rattle.std.proofs.Common.{List}
-use Rattle.store_rounds.specs.Images.{HaveImages}
 use Rattle.store_rounds.proofs.Places.{have_images, are_images, settled_as}
 use Rattle.store_rounds.proofs.images.images_are_of_each.Goals as goal
 

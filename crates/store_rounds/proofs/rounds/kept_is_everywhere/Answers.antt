@@ -1,5 +1,5 @@
 -- Engine by engine.
-use Rattle.store_rounds.proofs.Rounds.{reached_in_store}
+use Rattle.store_rounds.proofs.SameRounds.{reached_in_store}
 use Rattle.store_rounds.proofs.Starting.{kept_everywhere, read_everywhere}
 use Rattle.store_rounds.proofs.rounds.kept_is_everywhere.Goals as goal
 

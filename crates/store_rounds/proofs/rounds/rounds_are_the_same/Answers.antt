@@ -1,5 +1,5 @@
 -- The same rounds are reached, and the same vertices changed.
-use Rattle.store_rounds.proofs.Rounds.{reached_by_run, reached_in_store, held_by_run, held_in_store, known_round}
+use Rattle.store_rounds.proofs.SameRounds.{reached_by_run, reached_in_store, held_by_run, held_in_store, known_round}
 use Rattle.store_rounds.proofs.rounds.rounds_are_the_same.Goals as goal
 
 pub returns-clause-reached : goal.returns-clause-reached
