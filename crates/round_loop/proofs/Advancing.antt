@@ -32,7 +32,7 @@ use Rattle.round_loop.specs.Keeping.{IsTold, Moment}
 use Rattle.round_loop.specs.Conditions.{MOST_ROUNDS}
 use Rattle.round_loop.specs.Coming.{GoesOn, ComesWell, HasCome}
 use Rattle.round_loop.proofs.Reaching.{next_is_due, reached_of_due}
-use Rattle.round_loop.proofs.Stopping.{other_slot, made_stands, before_still, one_more}
+use Rattle.round_loop.proofs.Stopping.{other_slot, made_stands, before_still, one_more, more_since}
 use Rattle.round_loop.proofs.Keeping.{kept_then, kept_by_step, told_still, meters_then}
 use Rattle.round_loop.proofs.Epochs.{through_then, fronts_then, are_then, of_round}
 
@@ -168,9 +168,14 @@ module _ {D M : Type 0} (state : D → DiskState) (faults : M → ℕ) (laws : (
           due = due_next goes;
           any_stop = λ e d within.
               one_more rules job edges e from.beat (first_made start) (state (get_or from.store.values.items e d)) (state (get_or mid.store.values.items e d)) (round + 1) mid.beat
-              come.rises.0 (omega (arith, come.since, made_before_sent start)) (omega (arith, come.beat tt))
-              (state (get_or new.store.values.items e d)) new.beat (laws (get_or mid.store.values.items e d)) (come.store.values.beats e d within) step.beat.1
-              (reached_of_due rules job.vertices edges job.limit (round + 1) (due_next goes)) (λ _. (stands_before e d within).images) (well.any_stop e d within) (stores.any_moment e d (within_values e within));
+              come.rises.0 (omega (arith, come.since, made_before_sent start)) (omega (arith, come.beat tt)) (laws (get_or mid.store.values.items e d)) (come.store.values.beats e d within)
+              (reached_of_due rules job.vertices edges job.limit (round + 1) (due_next goes)) (λ _. (stands_before e d within).images) (well.any_stop e d within)
+              (state (get_or new.store.values.items e d)) new.beat step.beat.1 (stores.any_moment e d (within_values e within));
+          since = λ e d within.
+              more_since rules job edges e from.beat (first_made start) (state (get_or from.store.values.items e d)) (state (get_or mid.store.values.items e d)) (round + 1) mid.beat
+              come.rises.0 (omega (arith, come.since, made_before_sent start)) (omega (arith, come.beat tt)) (laws (get_or mid.store.values.items e d)) (come.store.values.beats e d within)
+              (reached_of_due rules job.vertices edges job.limit (round + 1) (due_next goes)) (λ _. (stands_before e d within).images) (well.any_stop e d within)
+              (state (get_or new.store.values.items e d)) new.beat step.beat.1 (stores.any_moment e d (within_values e within)) (well.since e d within);
         }
 
       long : length (epochs ++ more) ≡ length epochs + length more

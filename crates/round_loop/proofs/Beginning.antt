@@ -23,7 +23,7 @@ use Rattle.round_loop.specs.Opening.{OpensEdges}
 use Rattle.round_loop.specs.Keeping.{IsTold, Moment}
 use Rattle.round_loop.specs.Coming.{ComesWell, HasCome}
 use Rattle.round_loop.proofs.Reaching.{due_of_reached, reached_of_due}
-use Rattle.round_loop.proofs.Stopping.{made_stands, one_more, none_yet}
+use Rattle.round_loop.proofs.Stopping.{made_stands, one_more, more_since, none_yet}
 use Rattle.round_loop.proofs.Keeping.{kept_same, kept_by_step, told_still, meters_same}
 use Rattle.round_loop.proofs.Epochs.{through_none, of_first}
 
@@ -68,6 +68,7 @@ module _ {D M : Type 0} (state : D → DiskState) (faults : M → ℕ) (laws : (
       counted = λ _. good.counted round changed refl;
       due = due_of_reached rules job.vertices edges job.limit round (good.reached round changed refl);
       any_stop = λ e d within. none_yet rules job edges e from.beat (round + 1) (state (get_or from.store.values.items e d)) (laws (get_or from.store.values.items e d));
+      since = λ e d within b t bytes after small before stop. absurd (omega (arith, after, small));
     };
   }
 
@@ -105,10 +106,16 @@ module _ {D M : Type 0} (state : D → DiskState) (faults : M → ℕ) (laws : (
           due = due_first edges;
           any_stop = λ e d within.
               one_more rules job edges e from.beat 0 (state (get_or from.store.values.items e d)) (state (get_or from.store.values.items e d)) 0 from.beat
-              (omega arith) (omega arith) (omega arith)
-              (state (get_or new.store.values.items e d)) new.beat (laws (get_or from.store.values.items e d)) (ready.values.beats e d within) first.beat.1
+              (omega arith) (omega arith) (omega arith) (laws (get_or from.store.values.items e d)) (ready.values.beats e d within)
               (reached_of_due rules job.vertices edges job.limit 0 (due_first edges)) (λ later had. absurd (omega (arith, later)))
-              (none_yet rules job edges e from.beat 0 (state (get_or from.store.values.items e d)) (laws (get_or from.store.values.items e d))) (stores.any_moment e d (within_first e within));
+              (none_yet rules job edges e from.beat 0 (state (get_or from.store.values.items e d)) (laws (get_or from.store.values.items e d)))
+              (state (get_or new.store.values.items e d)) new.beat first.beat.1 (stores.any_moment e d (within_first e within));
+          since = λ e d within.
+              more_since rules job edges e from.beat 0 (state (get_or from.store.values.items e d)) (state (get_or from.store.values.items e d)) 0 from.beat
+              (omega arith) (omega arith) (omega arith) (laws (get_or from.store.values.items e d)) (ready.values.beats e d within)
+              (reached_of_due rules job.vertices edges job.limit 0 (due_first edges)) (λ later had. absurd (omega (arith, later)))
+              (none_yet rules job edges e from.beat 0 (state (get_or from.store.values.items e d)) (laws (get_or from.store.values.items e d)))
+              (state (get_or new.store.values.items e d)) new.beat first.beat.1 (stores.any_moment e d (within_first e within)) (λ b t bytes after small before stop. absurd (omega (arith, after, small)));
         }
 
     -- round 0

@@ -122,6 +122,7 @@ module _ {D M : Type 0} (state : D → DiskState) (faults : M → ℕ) (rules : 
             settles = λ _. refl;
             stored = stored_at edges well;
             any_stop = well.any_stop;
+            since = well.since;
           };
     }
 
@@ -151,6 +152,7 @@ module _ {D M : Type 0} (state : D → DiskState) (faults : M → ℕ) (rules : 
               settles = λ unsettled. absurd (unsettled_has_no_last rules job.vertices edges job.limit round unsettled last);
               stored = stored_at edges well;
               any_stop = well.any_stop;
+              since = well.since;
             };
       }
 
@@ -179,6 +181,7 @@ module _ {D M : Type 0} (state : D → DiskState) (faults : M → ℕ) (rules : 
               settles = λ _. refl;
               stored = stored_at edges well;
               any_stop = well.any_stop;
+              since = well.since;
             };
       }
 
@@ -204,6 +207,7 @@ module _ {D M : Type 0} (state : D → DiskState) (faults : M → ℕ) (rules : 
       settles = λ _. refl;
       stored = λ r last. absurd (omega (arith, last.begun));
       any_stop = λ e d within. none_yet rules job edges e from.beat (first_made start) (state (get_or from.store.values.items e d)) (laws (get_or from.store.values.items e d));
+      since = λ e d within b t bytes after small before stop. absurd (omega (arith, after, small));
     };
   }
 
@@ -261,5 +265,5 @@ module _ {D M : Type 0} (state : D → DiskState) (faults : M → ℕ) (rules : 
       sound = run.sound;
       well = λ edges has told good.
           let well = run.well edges has told good in
-          record { are = well.are; last = well.last; unsettled = well.unsettled; settles = well.settles; stored = well.stored; any_stop = well.any_stop };
+          record { are = well.are; last = well.last; unsettled = well.unsettled; settles = well.settles; stored = well.stored; any_stop = well.any_stop; since = well.since };
     }

@@ -1,5 +1,6 @@
 -- What a stop leaves of one values device, from round to round.
 use Rattle.std.proofs.Common.{◌≡◌, ℕ, ◌+◌, ◌-◌, ◌<◌, ◌≤◌, List, Option, Some, ◌⊎◌, inl, inr, refl, sym, ◌∙◌, subst, arith}
+use Rattle.std.proofs.lemmas.Bool.{cases_lt}
 use Rattle.graph_model.specs.declared.edge.Edge.{Edge}
 use Rattle.graph_model.specs.declared.job.Job.{Job}
 use Rattle.graph_model.specs.Programs.{Rules}
@@ -13,7 +14,7 @@ use Rattle.store_model.specs.Slots.{slot_of, slot_bytes}
 use Rattle.checkpoint.specs.SlotStates.{SameOther}
 use Rattle.checkpoint.specs.Storing.{WhileStoring}
 use Rattle.round_loop.specs.Starts.{IsReached}
-use Rattle.round_loop.specs.Kept.{changed_by, share, Holds, Gives, HasStood, Stands, SlotLeft, Left}
+use Rattle.round_loop.specs.Kept.{changed_by, share, Holds, Gives, HasStood, Stands, SlotLeft, Left, LeftSince}
 use Rattle.round_loop.proofs.SlotBytes.{closed_still, held_still}
 
 -- the slots of two rounds in a row
@@ -108,23 +109,38 @@ module _ (rules : Rules) (job : Job) (edges : List Edge) (e : ℕ) where
             subst (λ k. Holds rules job edges (k - 1) e bytes) (sym same) (before_stands round mid bytes (omega arith) (kept (omega arith) stood) while);
       }
 
-      -- one round more, whether it is done or not
-      pub one_more : (new : DiskState) (later : ℕ) → IsDisk mid → mid.beat ≤ now → later ≤ now + 1 → IsReached rules job.vertices edges job.limit round →
-          (1 ≤ round → HasStood rules job edges first (round - 1) e start → InEveryImage mid (Holds rules job edges (round - 1) e)) →
-          LeavesByBeat start mid (λ b bytes. b ≤ now → Left rules job edges number first e start b bytes) → Leaves (now + 1) mid new (While round mid) →
-          LeavesByBeat start new (λ b bytes. b ≤ later → Left rules job edges number first e start b bytes)
-      one_more new later disk under short reached kept run next =
-          let P : ℕ → List ℕ → Type 0 = λ b bytes. b ≤ now → Left rules job edges number first e start b bytes in
-          let all : LeavesByBeat start new (λ b bytes. ((b < now + 1) × P b bytes) ⊎ ((now + 1 ≤ b) × While round mid bytes))
-          = later_beat (now + 1) start mid new P (While round mid) disk (omega (arith, under)) run next
-          (λ c image. record { image = c; is_image = image; other = refl; long = refl; itself = inl refl }) in
-          by_beat_weaker start new (λ b bytes. ((b < now + 1) × P b bytes) ⊎ ((now + 1 ≤ b) × While round mid bytes)) (λ b bytes. b ≤ later → Left rules job edges number first e start b bytes) all
-          (λ b bytes found within. elim found [
-            | inl before ↦ before.1 (omega (arith, before.0))
-            | inr here ↦
-                let is_next : b ≡ now + 1 = omega (arith, here.0, short, within) in
-                let image : mid.images here.1.image = here.1.is_image in
-                let left : Left rules job edges number first e start now here.1.image
-                = run.each now here.1.image (disk.counts_now now start.moment here.1.image under run.later image) (omega arith) in
-                subst (λ k. Left rules job edges number first e start k bytes) (sym is_next) (left_then reached kept bytes here.1 left)
-          ])
+      -- what stood at its beginning is left while nothing is done yet
+      while_none : (bytes : List ℕ) → mid.images bytes → While round mid bytes
+      while_none bytes image = record { image = bytes; is_image = image; other = refl; long = refl; itself = inl refl }
+
+      module _ (disk : IsDisk mid) (under : mid.beat ≤ now) (reached : IsReached rules job.vertices edges job.limit round) (kept : 1 ≤ round → HasStood rules job edges first (round - 1) e start → InEveryImage mid (Holds rules job edges (round - 1) e))
+          (run : LeavesByBeat start mid (λ b bytes. b ≤ now → Left rules job edges number first e start b bytes)) where
+        left_next : (bytes : List ℕ) → While round mid bytes → Left rules job edges number first e start (now + 1) bytes
+        left_next bytes while =
+            left_then reached kept bytes while (run.each now while.image (disk.counts_now now start.moment while.image under run.later while.is_image) (omega arith))
+
+        module _ (new : DiskState) (later : ℕ) (short : later ≤ now + 1) (next : Leaves (now + 1) mid new (While round mid)) where
+          -- one round more, whether it is done or not
+          pub one_more : LeavesByBeat start new (λ b bytes. b ≤ later → Left rules job edges number first e start b bytes)
+          one_more =
+              let P : ℕ → List ℕ → Type 0 = λ b bytes. b ≤ now → Left rules job edges number first e start b bytes in
+              let all : LeavesByBeat start new (λ b bytes. ((b < now + 1) × P b bytes) ⊎ ((now + 1 ≤ b) × While round mid bytes))
+              = later_beat (now + 1) start mid new P (While round mid) disk (omega (arith, under)) run next while_none in
+              by_beat_weaker start new (λ b bytes. ((b < now + 1) × P b bytes) ⊎ ((now + 1 ≤ b) × While round mid bytes)) (λ b bytes. b ≤ later → Left rules job edges number first e start b bytes) all
+              (λ b bytes found within. elim found [
+                | inl before ↦ before.1 (omega (arith, before.0))
+                | inr here ↦ let is_next : b ≡ now + 1 = omega (arith, here.0, short, within) in subst (λ k. Left rules job edges number first e start k bytes) (sym is_next) (left_next bytes here.1)
+              ])
+
+          -- and of a stop that is counted from before the run
+          pub more_since : LeftSince rules job edges number first now e start mid → LeftSince rules job edges number first later e start new
+          more_since so_far b t bytes after within before stop =
+              let in_next : now < b → While round mid bytes → Left rules job edges number first e start b bytes =
+              λ beyond while. let is_next : b ≡ now + 1 = omega (arith, beyond, short, within) in subst (λ k. Left rules job edges number first e start k bytes) (sym is_next) (left_next bytes while) in
+              elim (next.since b t bytes (omega (arith, before, run.later)) stop) [
+                | inl earlier ↦ elim (cases_lt now b) [
+                  | inl beyond ↦ in_next beyond (while_none bytes (disk.later_beats b t bytes (omega (arith, beyond, under)) earlier))
+                  | inr sooner ↦ so_far b t bytes after sooner before earlier
+                ]
+                | inr here ↦ in_next (omega (arith, here.0)) here.1
+              ]

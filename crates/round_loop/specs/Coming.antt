@@ -16,7 +16,7 @@ use Rattle.round_loop.specs.declared.run.Start.{Start}
 use Rattle.round_loop.specs.declared.course.Progress.{Progress}
 use Rattle.round_loop.specs.Starts.{split_for, first_made, first_sent, counts_first, epochs_to, IsDue}
 use Rattle.round_loop.specs.Opening.{AreEpochsOf}
-use Rattle.round_loop.specs.Kept.{changed_in, Left, StandsAfter, IsGoodStart}
+use Rattle.round_loop.specs.Kept.{changed_in, Left, LeftSince, StandsAfter, IsGoodStart}
 use Rattle.round_loop.specs.Keeping.{Keeps, IsTold, Moment}
 
 -- a further round is to be made
@@ -45,6 +45,8 @@ module _ {D M : Type 0} (state : D → DiskState) (rules : Rules) (job : Job) (s
     pub due : IsDue rules job.vertices edges job.limit round
     pub any_stop : (e : ℕ) (d : D) → e < job.engines → LeavesByBeat (state (slice_index_or old.store.values.items e d)) (state (slice_index_or new.store.values.items e d))
         (λ b bytes. b ≤ new.beat → Left rules job edges old.beat (first_made start) e (state (slice_index_or old.store.values.items e d)) b bytes)
+    pub since : (e : ℕ) (d : D) → e < job.engines
+        → LeftSince rules job edges old.beat (first_made start) new.beat e (state (slice_index_or old.store.values.items e d)) (state (slice_index_or new.store.values.items e d))
 
 module _ {D M : Type 0} (state : D → DiskState) (faults : M → ℕ) (rules : Rules) (job : Job) (start : Start) (index : List (List Place)) where
   -- **A run has come to a round**, which is done or not; so many epochs were made, and so many of their replies took chunks and admitted help

@@ -63,6 +63,10 @@ module _ (rules : Rules) (job : Job) (edges : List Edge) where
     -- in the beat in which a round is made, the round before it stands
     pub stands : (round : ℕ) → first ≤ round → 1 ≤ round → b ≡ number + 1 + (round - first) → HasStood first (round - 1) e start → Holds (round - 1) e bytes
 
+  -- **In the beats after that of this number, up to the last, a stop leaves this of the device**, from whatever moment before the run on it is counted
+  abbrev pub LeftSince : (number first last e : ℕ) → (old new : DiskState) → Type 0
+  LeftSince number first last e old new = (b t : ℕ) (bytes : List ℕ) → number < b → b ≤ last → t ≤ old.moment → new.stops b t bytes → Left number first e old b bytes
+
   module _ {D : Type 0} (state : D → DiskState) where
     -- the round stands on every engine, in every image
     abbrev pub IsKept : (round : ℕ) → List D → Type 0

@@ -21,7 +21,7 @@ use Rattle.round_loop.specs.declared.fault.RoundFault.{RoundFault}
 use Rattle.round_loop.specs.declared.fault.RoundFault.TheVariants.{RoundLimit, DiskFault, Damaged}
 use Rattle.round_loop.specs.Starts.{split_for, first_made, first_sent, counts_first, epochs_to, IsLastBegun}
 use Rattle.round_loop.specs.Opening.{AreEpochsOf}
-use Rattle.round_loop.specs.Kept.{Left, StandsAfter, IsGoodStart}
+use Rattle.round_loop.specs.Kept.{Left, LeftSince, StandsAfter, IsGoodStart}
 use Rattle.round_loop.specs.Keeping.{Keeps, IsTold, Moment}
 
 module _ {D M : Type 0} (state : D → DiskState) (rules : Rules) (job : Job) (start : Start) (edges : List Edge) where
@@ -38,6 +38,9 @@ module _ {D M : Type 0} (state : D → DiskState) (rules : Rules) (job : Job) (s
     -- what a stop leaves
     pub any_stop : (e : ℕ) (d : D) → e < job.engines → LeavesByBeat (state (slice_index_or old.store.values.items e d)) (state (slice_index_or new.store.values.items e d))
         (λ b bytes. b ≤ new.beat → Left rules job edges old.beat (first_made start) e (state (slice_index_or old.store.values.items e d)) b bytes)
+    -- the same in the beats of the run, where a stop is counted from before it
+    pub since : (e : ℕ) (d : D) → e < job.engines
+        → LeftSince rules job edges old.beat (first_made start) new.beat e (state (slice_index_or old.store.values.items e d)) (state (slice_index_or new.store.values.items e d))
 
 module _ {D M : Type 0} (state : D → DiskState) (faults : M → ℕ) (rules : Rules) (job : Job) (start : Start) (index : List (List Place)) where
   -- **A run, whatever it is handed and whatever it answers**
