@@ -1,5 +1,5 @@
 // The answer of a job whose rounds are done.
-ghost use Rattle.std.specs.Prelude.{◌≡◌, ◌+◌, ◌<◌, vec_len};
+ghost use Rattle.std.specs.Prelude.{◌≡◌, ◌+◌, Ok, vec_len};
 ghost use Rattle.graph_model.specs.Programs.{shows_side};
 ghost use Rattle.partitioner.specs.Splits.{IsSplit};
 ghost use Rattle.value_text.specs.Shown.{shows_side as shows_side_of};

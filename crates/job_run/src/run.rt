@@ -2,7 +2,7 @@
 ghost use Rattle.std.specs.Prelude.{◌≡◌, ℕ, ◌+◌, ◌^◌, ◌≤◌, Some, vec_len};
 ghost use Rattle.graph_model.specs.Jobs.{IsWellFormedJob};
 ghost use Rattle.graph_model.specs.Programs.{rules_of, shows_side};
-ghost use Rattle.partitioner.specs.Splits.{IsSplit, IsSplitOf};
+ghost use Rattle.partitioner.specs.Splits.{IsSplit};
 ghost use Rattle.chunk_object.specs.History.{most_chunks};
 ghost use Rattle.store_reader.specs.Indexed.{lens_of};
 ghost use Rattle.epoch_seats.specs.Between.{IsBetweenEpochs};

@@ -1,5 +1,5 @@
 -- What is printed of a round that is read.
-use Rattle.std.proofs.Common.{◌≡◌, ℕ, ◌^◌, ◌<◌, ◌≤◌, ◌==◌, if◌then◌else◌, zero, suc, Bool, true, false, Option, Some, None, List, [], ◌∷◌, ◌++◌, length, take, drop, get_or, refl, ◌∙◌, ap, arith}
+use Rattle.std.proofs.Common.{◌≡◌, ℕ, ◌^◌, ◌<◌, ◌≤◌, zero, suc, Option, Some, None, List, [], ◌∷◌, ◌++◌, length, take, drop, get_or, refl, ◌∙◌, ap, arith}
 use Rattle.std.specs.Prelude.{slice_get, option_and_then}
 use Rattle.std.proofs.lemmas.List.{take-append-drop}
 use Rattle.graph_model.specs.declared.edge.Edge.{Edge}
@@ -20,6 +20,7 @@ use Rattle.ports.specs.Sink.{Appends, AppendsFront}
 use Rattle.ports.specs.Told.{AsTold}
 use Rattle.store_model.specs.Slots.{slot_of}
 use Rattle.apply_round.proofs.Desks.{any_of}
+use Rattle.restart.proofs.HeadsOfJobs.{few_vertices}
 use Rattle.round_loop.specs.Starts.{split_for}
 use Rattle.round_loop.specs.Kept.{IsRead}
 use Rattle.answer_lines.specs.Values.{HoldValues}
@@ -48,20 +49,13 @@ parts_of_front piece (Some old) None told = absurd told
 parts_of_front piece None (Some new) told = absurd told
 parts_of_front piece None None told = ([], piece, tt, refl)
 
-few_for_words : (job : Job) → IsWellFormedJob job → job.vertices ≤ 2 ^ 32
-few_for_words job well = by_format (job.format == 1) well.vertices
-  where
-    by_format : (old : Bool) → job.vertices ≤ (if old then 4194304 else 67108864) → job.vertices ≤ 2 ^ 32
-    by_format true few = omega (arith, few)
-    by_format false few = omega (arith, few)
-
 module _ {D : Type 0} (state : D → DiskState) (job : Job) (edges : List Edge) (round : ℕ) (devices : List D) (well : IsWellFormedJob job) (graph : IsWithinGraph job.vertices edges) (many : length devices ≡ job.engines)
     (read : IsRead (rules_of job.program) job edges state round devices) where
   -- **The values of the round stand in its slot.**
   pub held : HoldValues state (split_for job) devices (slot_of round) (values (rules_of job.program) job.vertices edges round)
   held = record {
     long = length-values (rules_of job.program) job.vertices edges round;
-    fit = rooms job.program job.vertices edges round (few_for_words job well) graph;
+    fit = rooms job.program job.vertices edges round (omega (arith, few_vertices job well)) graph;
     stand = λ e below.
         let within : e < length devices = omega (arith, many, below) in
         let d : D = any_of devices e within in
