@@ -1,13 +1,12 @@
 -- Chunks one behind another on a device: the t-th place of a partition is where its t-th chunk stands.
-use Rattle.std.proofs.Common.{◌≡◌, ◌∙◌, ℕ, ◌+◌, ◌<◌, ◌==◌, Bool, true, false, List, [], ◌∷◌, ◌++◌, length, map, filter, get_or, refl, sym, ap, subst, append_assoc, length-append}
+use Rattle.std.proofs.Common.{◌≡◌, ◌∙◌, ℕ, ◌+◌, ◌<◌, ◌==◌, Bool, true, false, List, [], ◌∷◌, ◌++◌, length, map, filter, drop, get_or, refl, sym, ap, subst, append_assoc}
 use Rattle.std.specs.List.{All}
-use Rattle.std.proofs.lemmas.List.{get_or-map, length-map}
+use Rattle.std.proofs.lemmas.List.{drop_at, drop-drop, get_or-map, length-map}
 use Rattle.std.proofs.lemmas.List.Elements.{All-nil, All-cons, All-filter, All-get_or}
 use Rattle.chunk_model.specs.Chunks.{Chunk, chunks_of_partition}
 use Rattle.chunk_model.specs.Layout.{Layout}
 use Rattle.chunk_model.specs.ChunkBytes.{StandsAt, chunk_bytes, bytes_of_chunks, chunk_starts, starts_of}
 use Rattle.chunk_model.proofs.Made.{all_items_of}
-use Rattle.chunk_model.proofs.OnDevice.{appended_stands}
 use Rattle.phase_model.specs.Shelves.{no_chunk}
 
 module _ {X : Type 0} (layout : Layout X) where
@@ -31,15 +30,14 @@ module _ {X : Type 0} (layout : Layout X) where
   abbrev IsThere : List ℕ → ℕ × Chunk X → Type 0
   IsThere bytes start = StandsAt start.0 (text_of start.1) bytes
 
-  each_stands : (front : List ℕ) (made : List (Chunk X)) → All (IsThere (front ++ bytes_of_chunks layout made)) (chunk_starts layout (length front) made)
-  each_stands front [] = All-nil (IsThere (front ++ []))
-  each_stands front (c ∷ made) =
-      let bytes : List ℕ = front ++ bytes_of_chunks layout (c ∷ made) in
-      let whole : (front ++ text_of c) ++ bytes_of_chunks layout made ≡ bytes = append_assoc front (text_of c) (bytes_of_chunks layout made) in
-      All-cons (IsThere bytes) (length front, c) (chunk_starts layout (length front + length (text_of c)) made)
-      (subst (StandsAt (length front) (text_of c)) whole (appended_stands front (text_of c) (bytes_of_chunks layout made)))
-      (subst (λ at. All (IsThere bytes) (chunk_starts layout at made)) (length-append front (text_of c))
-      (subst (λ all. All (IsThere all) (chunk_starts layout (length (front ++ text_of c)) made)) whole (each_stands (front ++ text_of c) made)))
+  each_stands : (at : ℕ) (bytes rest : List ℕ) (made : List (Chunk X)) → drop at bytes ≡ bytes_of_chunks layout made ++ rest → All (IsThere bytes) (chunk_starts layout at made)
+  each_stands at bytes rest [] stand = All-nil (IsThere bytes)
+  each_stands at bytes rest (c ∷ made) stand =
+      let others : List ℕ = bytes_of_chunks layout made ++ rest in
+      let here : drop at bytes ≡ text_of c ++ others = stand ∙ append_assoc (text_of c) (bytes_of_chunks layout made) rest in
+      let behind : drop (at + length (text_of c)) bytes ≡ others =
+      sym (drop-drop (length (text_of c)) at bytes) ∙ ap (drop (length (text_of c))) here ∙ drop_at (text_of c) others (length (text_of c)) refl in
+      All-cons (IsThere bytes) (at, c) (chunk_starts layout (at + length (text_of c)) made) (others, here) (each_stands (at + length (text_of c)) bytes rest made behind)
 
   -- there are as many places as chunks
   pub as_many : (p at : ℕ) (made : List (Chunk X)) → length (starts_of layout p at made) ≡ length (chunks_of_partition p made)
@@ -49,14 +47,13 @@ module _ {X : Type 0} (layout : Layout X) where
       ∙ ap length (chunks_standing p at made)
 
   -- **What stands at the t-th place.**
-  pub stands_there : (p at t : ℕ) (front : List ℕ) (made : List (Chunk X)) → length front ≡ at → t < length (starts_of layout p at made) →
-      StandsAt (get_or (starts_of layout p at made) t 0) (chunk_bytes layout p (get_or (chunks_of_partition p made) t no_chunk).items) (front ++ bytes_of_chunks layout made)
-  stands_there p at t front made long below =
+  pub stands_there : (p at t : ℕ) (bytes rest : List ℕ) (made : List (Chunk X)) → drop at bytes ≡ bytes_of_chunks layout made ++ rest → t < length (starts_of layout p at made) →
+      StandsAt (get_or (starts_of layout p at made) t 0) (chunk_bytes layout p (get_or (chunks_of_partition p made) t no_chunk).items) bytes
+  stands_there p at t bytes rest made stand below =
       let both : List (ℕ × Chunk X) = standing p at made in
       let within : t < length both = subst (λ n. t < n) (length-map both (λ (start : ℕ × Chunk X). start.0)) below in
       let none : ℕ × Chunk X = (0, no_chunk) in
-      let bytes : List ℕ = front ++ bytes_of_chunks layout made in
-      let stands : All (IsThere bytes) both = All-filter (λ (start : ℕ × Chunk X). start.1.partition == p) (IsThere bytes) (chunk_starts layout at made) (subst (λ n. All (IsThere bytes) (chunk_starts layout n made)) long (each_stands front made)) in
+      let stands : All (IsThere bytes) both = All-filter (λ (start : ℕ × Chunk X). start.1.partition == p) (IsThere bytes) (chunk_starts layout at made) (each_stands at bytes rest made stand) in
       let here : IsThere bytes (get_or both t none) = All-get_or (IsThere bytes) both t none within stands in
       let place : get_or (starts_of layout p at made) t 0 ≡ (get_or both t none).0 = get_or-map (λ (start : ℕ × Chunk X). start.0) both t none 0 within in
       let chunk : get_or (chunks_of_partition p made) t no_chunk ≡ (get_or both t none).1 = ap (λ cs. get_or cs t no_chunk) (sym (chunks_standing p at made)) ∙ get_or-map (λ (start : ℕ × Chunk X). start.1) both t none no_chunk within in

@@ -14,8 +14,10 @@ ghost use Rattle.chunk_file.specs.Places.{total_of};
 ghost use Rattle.store_model.specs.Graphs.{edge_chunks, graph};
 ghost use Rattle.store_reader.specs.Indexed.{lens_of};
 ghost use Rattle.storage_engine.specs.Making.{HasPlaces};
+ghost use Rattle.store_checks.specs.Causes.{Tell};
+ghost use Rattle.restart.specs.Recovering.{IsOpened};
 ghost use Rattle.restart.specs.Storable.{IsStorable};
-ghost use Rattle.round_steps.specs.Standing.{HasEdges};
+ghost use Rattle.round_steps.specs.Standing.{HaveEdges, HasEdges};
 
 use ports::Disk;
 
@@ -27,6 +29,13 @@ pub fn edges_stand<D: Disk>()
         (index : List (List Place)) → HasPlaces job (edge_chunks job edges) index → (graphs : List D) → length graphs ≡ job.engines →
         ((e : ℕ) (d : D) → e < job.engines → (D.state (slice_index_or graphs e d)).bytes ≡ Some (graph job edges e)) →
         HasEdges D.state job split index graphs edges }
+{}
+
+/// After a recovery from devices that tell their bytes each chunk of the index stands on its device, whatever its records
+/// are: also where the devices are the store of no edges.
+pub fn found_chunks_stand<D: Disk>()
+    ensures { (job : Job) → IsWellFormedJob job → (split : Split) → IsSplitOf job split → (graphs values : List (List ℕ)) (index : List (List Place)) → IsOpened graphs values job index →
+        (devices : List D) → Tell D.state devices graphs → (records : ℕ → ℕ → List Edge) × HaveEdges D.state job split index devices records }
 {}
 
 /// The edges of a text that a job accepts may have a store of the second format, whose weights have room for all that a
