@@ -8,7 +8,7 @@ use Rattle.storage_engine.specs.Making.{HasPlaces}
 use Rattle.store_model.specs.Graphs.{edge_chunks}
 use Rattle.restart.specs.declared.recovering.Recovered.{Recovered}
 use Rattle.restart.specs.declared.recovering.Recovered.TheVariants.{Found, Fresh as NoneFound}
-use Rattle.restart.specs.Recovering.{job_in, index_in}
+use Rattle.restart.specs.Recovering.{job_in, index_in, IsOpened, IsRecovered}
 use Rattle.restart.specs.Resuming.{changed_of_all, Resumes}
 use Rattle.round_loop.specs.declared.run.Start.{Start}
 use Rattle.round_loop.specs.declared.run.Start.TheVariants.{Fresh, At}
@@ -18,6 +18,11 @@ use Rattle.store_rounds.specs.Going.{start_of}
 use Rattle.store_rounds.specs.Images.{AreSettledAs}
 use Rattle.store_rounds.proofs.Starting.{settled_start}
 use Rattle.run_model.specs.Resumes.{IsStartOf}
+
+-- what is so of all that is recovered
+pub opened_found : (graphs values : List (List ℕ)) (found : Recovered) → IsRecovered graphs values found → IsOpened graphs values (job_in found) (index_in found)
+opened_found graphs values (Found held index round changed) recovered = recovered.0
+opened_found graphs values (NoneFound held index) recovered = recovered.0
 
 module _ (job : Job) (edges : List Edge) (values : List (List ℕ)) where
   pub job_found : (found : Recovered) → Resumes job edges values found → job_in found ≡ job
