@@ -1,3 +1,1 @@
-pub mod ReadingLemmas
-pub mod RunLemmas
-pub mod AnswerLemmas
+pub mod Outcomes

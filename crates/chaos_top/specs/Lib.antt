@@ -1,4 +1,1 @@
-pub mod Endings
 pub mod Outcome
-pub mod Parts
-pub mod Words

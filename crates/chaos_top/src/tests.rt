@@ -3,10 +3,16 @@
 // A row has the words, the text, the status, what is printed and what is said, between semicolons. In texts `/` stands
 // for a line feed, `~` for a tab and `^` for a carriage return.
 use crate::chaos;
-use mem_devices::{MemSink, MemSource};
+use chunk_cursor::CursorTable;
+use engine_gate::OpenGate;
+use job_words::wanted;
+use mem_devices::{MemDisk, MemMeter, MemSink, MemSource};
+use ports::{Beat, Memory};
 use std::alloc::{AllocError, Global};
 use std::process::Abort;
 use std::test::Fail;
+use std::thread::Threads;
+use store_reader::Store;
 
 const USAGE: &str =
     "usage: chaos_cli run|bench|resume|drop [bfs ROOT|labels|sssp ROOT|degrees|pagerank ROUNDS] [options]/";
@@ -32,13 +38,66 @@ fn bytes_of(alloc: Global, shown: &str) -> Result<Vec<u8>, AllocError> {
     Ok(bytes)
 }
 
+/// So many empty disks.
+fn disks(alloc: Global, count: u32) -> Result<Vec<MemDisk>, Memory> {
+    let mut disks = Vec::new(alloc);
+    for _ in 0..count {
+        disks.push(MemDisk::new(alloc, &[], &[])?)?;
+    }
+    Ok(disks)
+}
+
+fn store_of(alloc: Global, engines: u32) -> Result<Store<MemDisk>, Memory> {
+    let mut lanes = Vec::new(alloc);
+    for _ in 0..engines {
+        lanes.push(disks(alloc, engines)?)?;
+    }
+    Ok(Store {
+        graphs: disks(alloc, engines)?,
+        values: disks(alloc, engines)?,
+        lanes,
+        spills: disks(alloc, engines)?,
+    })
+}
+
+fn meters_of(alloc: Global, engines: u32) -> Result<Vec<MemMeter>, Memory> {
+    let mut meters = Vec::new(alloc);
+    for _ in 0..engines + 1 {
+        meters.push(MemMeter::new(alloc, &[])?)?;
+    }
+    Ok(meters)
+}
+
 // What a call answers, prints and says, over a source that gives three bytes a call.
-fn served(alloc: Global, words: &str, text: &[u8]) -> Result<(u8, MemSink, MemSink), Fail> {
+fn served<R: Threads + Sync>(
+    rt: &R,
+    alloc: Global,
+    words: &str,
+    text: &[u8],
+) -> Result<(u8, MemSink, MemSink), Fail> {
     let words = words_of(alloc, words)?;
+    let engines = wanted(alloc, &words)?;
     let mut source = MemSource::new(alloc, text, 3, &[])?;
     let mut out = MemSink::new(alloc, 100, &[])?;
     let mut err = MemSink::new(alloc, 100, &[])?;
-    let status = chaos(alloc, &words, &mut source, &mut out, &mut err);
+    let mut store = store_of(alloc, engines)?;
+    let mut meters = meters_of(alloc, engines)?;
+    let (table, mut seat) = CursorTable::new(alloc)?;
+    let mut beat = Beat::new();
+    let status = chaos(
+        rt,
+        alloc,
+        &words,
+        &mut source,
+        &mut out,
+        &mut err,
+        &mut store,
+        &mut meters,
+        &table,
+        &mut seat,
+        &OpenGate,
+        &mut beat,
+    );
     Ok((status, out, err))
 }
 
@@ -46,7 +105,7 @@ fn said(sink: &MemSink, bytes: &[u8]) -> bool {
     sink.written() == bytes
 }
 
-fn serve(rt: &impl Abort, alloc: Global, row: &str) -> Result<(), Fail> {
+fn serve<R: Threads + Sync + Abort>(rt: &R, alloc: Global, row: &str) -> Result<(), Fail> {
     let columns: Vec<&str> = row.split(';').collect(alloc)?;
     let [words, text, status, printed, message] = columns.as_slice() else {
         return Err(Fail::new("a row has five columns"));
@@ -54,14 +113,14 @@ fn serve(rt: &impl Abort, alloc: Global, row: &str) -> Result<(), Fail> {
     let text = bytes_of(alloc, text)?;
     let printed = bytes_of(alloc, printed)?;
     let message = bytes_of(alloc, message)?;
-    let (answer, out, err) = served(alloc, words, &text)?;
+    let (answer, out, err) = served(rt, alloc, words, &text)?;
     assert!(rt; status.parse() == Ok(answer), "{row}");
     assert!(rt; said(&out, &printed), "{row}");
     assert!(rt; said(&err, &message), "{row}");
     Ok(())
 }
 
-fn serve_all(rt: &impl Abort, alloc: Global, rows: &str) -> Result<(), Fail> {
+fn serve_all<R: Threads + Sync + Abort>(rt: &R, alloc: Global, rows: &str) -> Result<(), Fail> {
     for row in rows.lines() {
         serve(rt, alloc, row)?;
     }
@@ -116,52 +175,56 @@ run sssp 0 --vertices 3 --limit 2;0 1 5/0 2 1/2 1 1/;4;;no fixpoint within 2 rou
     )
 }
 
-// The words of the path, over a source and a sink of which some calls fail.
-fn path_over(
+// Calls one after another on the same devices, each with its words and text: what the last one answers, prints and says.
+fn in_turn<R: Threads + Sync>(
+    rt: &R,
     alloc: Global,
-    mut source: MemSource,
-    out: &mut MemSink,
-) -> Result<(u8, MemSink), Fail> {
-    let words = words_of(alloc, "run bfs 0 --vertices 4")?;
-    let mut err = MemSink::new(alloc, 100, &[])?;
-    let status = chaos(alloc, &words, &mut source, out, &mut err);
-    Ok((status, err))
-}
-
-fn read_fails(rt: &impl Abort, alloc: Global, call: u64) -> Result<(), Fail> {
-    let source = MemSource::new(alloc, b"0 1\n1 2\n", 5, &[call])?;
+    engines: u32,
+    calls: &[(&str, &[u8])],
+) -> Result<(u8, MemSink, MemSink), Fail> {
+    let mut store = store_of(alloc, engines)?;
+    let mut meters = meters_of(alloc, engines)?;
+    let (table, mut seat) = CursorTable::new(alloc)?;
+    let mut beat = Beat::new();
+    let mut status = 0;
     let mut out = MemSink::new(alloc, 100, &[])?;
-    let (status, err) = path_over(alloc, source, &mut out)?;
-    assert_eq!(rt; status, 6);
-    assert!(rt; said(&out, b""));
-    assert!(rt; said(&err, b"read fault\n"));
-    Ok(())
+    let mut err = MemSink::new(alloc, 100, &[])?;
+    for (words, text) in calls {
+        let words = words_of(alloc, words)?;
+        let mut source = MemSource::new(alloc, text, 100, &[])?;
+        out = MemSink::new(alloc, 100, &[])?;
+        err = MemSink::new(alloc, 100, &[])?;
+        status = chaos(
+            rt,
+            alloc,
+            &words,
+            &mut source,
+            &mut out,
+            &mut err,
+            &mut store,
+            &mut meters,
+            &table,
+            &mut seat,
+            &OpenGate,
+            &mut beat,
+        );
+    }
+    Ok((status, out, err))
 }
 
 #[test]
-fn a_read_fails_at_once_and_amid(rt: HostRuntime) -> Result<(), Fail> {
-    read_fails(&rt, rt.alloc(), 1)?;
-    read_fails(&rt, rt.alloc(), 2)
-}
-
-#[test]
-fn a_write_fails_amid(rt: HostRuntime) -> Result<(), Fail> {
-    let source = MemSource::new(rt.alloc(), b"0 1\n1 2\n", 100, &[])?;
-    let mut out = MemSink::new(rt.alloc(), 5, &[2])?;
-    let (status, err) = path_over(rt.alloc(), source, &mut out)?;
-    assert_eq!(rt; status, 7);
-    assert!(rt; said(&out, b"0 0\n1"));
-    assert!(rt; said(&err, b"write fault\n"));
-    Ok(())
-}
-
-#[test]
-fn a_message_that_fails_changes_no_status(rt: HostRuntime) -> Result<(), Fail> {
-    let words = words_of(rt.alloc(), "run bfs 0 --vertices 4")?;
-    let mut source = MemSource::new(rt.alloc(), b"0 x\n", 100, &[])?;
-    let mut out = MemSink::new(rt.alloc(), 100, &[])?;
-    let mut err = MemSink::new(rt.alloc(), 100, &[1])?;
-    let status = chaos(rt.alloc(), &words, &mut source, &mut out, &mut err);
-    assert_eq!(rt; status, 2);
+fn a_store_is_resumed_and_given_up(rt: HostRuntime) -> Result<(), Fail> {
+    let alloc = rt.alloc();
+    let run: (&str, &[u8]) = ("run sssp 0 --vertices 3", b"0 1 5\n0 2 1\n2 1 1\n");
+    let (status, out, _err) = in_turn(&rt, alloc, 1, &[run, ("resume", b"")])?;
+    assert!(rt; status == 0 && said(&out, b"0 0\n1 2\n2 1\n"));
+    let (status, out, err) = in_turn(&rt, alloc, 1, &[run, run])?;
+    assert!(rt; status == 12 && said(&out, b"") && said(&err, b"store holds a job\n"));
+    let (status, out, _err) = in_turn(&rt, alloc, 1, &[run, ("drop", b"")])?;
+    assert!(rt; status == 0 && said(&out, b""));
+    let (status, out, err) = in_turn(&rt, alloc, 1, &[run, ("drop", b""), ("resume", b"")])?;
+    assert!(rt; status == 8 && said(&out, b"") && said(&err, b"store is not prepared\n"));
+    let (status, out, _err) = in_turn(&rt, alloc, 1, &[run, ("drop", b""), run])?;
+    assert!(rt; status == 0 && said(&out, b"0 0\n1 2\n2 1\n"));
     Ok(())
 }

@@ -32,5 +32,5 @@ module _ {D M : Type 0} (state : D → DiskState) (faults : M → ℕ) (rules : 
     sound = run.sound;
     well = λ edges has told good.
         let well = run.well edges has told good in
-        record { are = well.are; last = well.last; unsettled = well.unsettled; settles = well.settles; stored = well.stored; any_stop = well.any_stop };
+        record { are = well.are; last = well.last; unsettled = well.unsettled; settles = well.settles; stored = well.stored; any_stop = well.any_stop; since = well.since };
   }

@@ -1,5 +1,5 @@
 -- One round more.
-use Rattle.std.proofs.Common.{◌≡◌, ℕ, ◌+◌, ◌-◌, ◌<◌, ◌≤◌, Bool, true, nat_lt, Some, List, [], ◌∷◌, ◌++◌, length, get_or, sym, ◌∙◌, ap, subst, arith}
+use Rattle.std.proofs.Common.{◌≡◌, ℕ, ◌+◌, ◌-◌, ◌<◌, ◌≤◌, Bool, true, nat_lt, Option, Some, List, [], ◌∷◌, ◌++◌, length, get_or, sym, ◌∙◌, ap, subst, arith}
 use Rattle.std.proofs.lemmas.Bool.{and_parts}
 use Rattle.std.proofs.lemmas.List.{length-append}
 use Rattle.std.proofs.lemmas.List.Elements.{All-append}
@@ -7,9 +7,7 @@ use Rattle.graph_model.specs.declared.edge.Edge.{Edge}
 use Rattle.graph_model.specs.declared.job.Job.{Job}
 use Rattle.graph_model.specs.Programs.{Rules}
 use Rattle.graph_model.specs.Jobs.{parts_of}
-use Rattle.ports.specs.Disk.{DiskState, IsDisk, InEveryImage}
-use Rattle.ports.proofs.Stops.{leaves_now}
-use Rattle.ports.proofs.Told.{present_at}
+use Rattle.ports.specs.Disk.{DiskState, IsDisk}
 use Rattle.partitioner.specs.declared.split.Split.{Split}
 use Rattle.partitioner.specs.Splits.{IsSplitOf}
 use Rattle.chunk_object.specs.Epochs.{Epoch}
@@ -29,12 +27,12 @@ use Rattle.round_loop.specs.declared.run.Start.{Start}
 use Rattle.round_loop.specs.declared.run.Start.TheVariants.{Fresh, At}
 use Rattle.round_loop.specs.Starts.{split_for, first_made, first_sent, counts_first, IsDue}
 use Rattle.round_loop.specs.Opening.{OpensEdges, OpensUpdates, AreEpochsOf, sends_changed}
-use Rattle.round_loop.specs.Kept.{share, Holds}
+use Rattle.round_loop.specs.Kept.{share, Gives, Stands}
 use Rattle.round_loop.specs.Keeping.{IsTold, Moment}
 use Rattle.round_loop.specs.Conditions.{MOST_ROUNDS}
 use Rattle.round_loop.specs.Coming.{GoesOn, ComesWell, HasCome}
 use Rattle.round_loop.proofs.Reaching.{next_is_due, reached_of_due}
-use Rattle.round_loop.proofs.Stopping.{While, other_slot, before_stands, one_more}
+use Rattle.round_loop.proofs.Stopping.{other_slot, made_stands, before_still, one_more, more_since}
 use Rattle.round_loop.proofs.Keeping.{kept_then, kept_by_step, told_still, meters_then}
 use Rattle.round_loop.proofs.Epochs.{through_then, fronts_then, are_then, of_round}
 
@@ -54,6 +52,9 @@ made_before_sent (At round changed) = omega arith
 sent_later : (start : Start) → 1 ≤ first_sent start
 sent_later Fresh = omega arith
 sent_later (At round changed) = omega arith
+
+same_told : (a b : List ℕ) → ◌≡◌ {A = Option (List ℕ)} (Some a) (Some b) → a ≡ b
+same_told a b same = cc
 
 lt_true : (a b : ℕ) → nat_lt a b ≡ true → a < b
 lt_true a b is = grind (arith, is)
@@ -102,20 +103,20 @@ module _ {D M : Type 0} (state : D → DiskState) (faults : M → ℕ) (laws : (
 
         reads : (e : ℕ) (d : D) → e < job.engines → StandsBefore rules (split_for job) edges (round + 1) changed_only e (state (get_or mid.store.values.items e d)).bytes
         reads e d within =
-            let device : DiskState = state (get_or mid.store.values.items e d) in
-            let tells : (bytes : List ℕ) × (device.bytes ≡ Some bytes) = told_now.values e d (within_values e within) in
-            let image : device.images tells.0 = present_at device tells.0 (laws (get_or mid.store.values.items e d)) tells.1 in
+            let now : Gives rules job edges round e (state (get_or mid.store.values.items e d)) = (well.kept tt e d within).read in
             record {
-              read = tells.0;
-              told = tells.1;
+              read = now.0;
+              told = now.1;
               last = λ later.
                   let here : slot_of round ≡ 1 - slot_of (round + 1) = ap slot_of (sym back) ∙ other_slot (round + 1) (omega arith) in
-                  ap (λ s. slot_values (own_of job e) s tells.0) (sym here) ∙ (well.kept tt e d within tells.0 image).values_are ∙ ap (λ r. values_bytes (share rules job edges r e)) (sym back);
+                  ap (λ s. slot_values (own_of job e) s now.0) (sym here) ∙ now.2.values_are ∙ ap (λ r. values_bytes (share rules job edges r e)) (sym back);
               earlier = λ is.
                   let sent : first_sent start ≤ round = (sent_for is).1 in
+                  let before : Gives rules job edges (round - 1) e (state (get_or mid.store.values.items e d)) = (well.behind sent e d within).read in
+                  let same_read : before.0 ≡ now.0 = same_told before.0 now.0 (sym before.1 ∙ now.1) in
                   let two : round + 1 - 2 ≡ round - 1 = omega arith in
                   let same : slot_of (round - 1) ≡ slot_of (round + 1) = omega (arith, sent, sent_later start) in
-                  ap (λ s. slot_values (own_of job e) s tells.0) (sym same) ∙ (well.behind sent e d within tells.0 image).values_are ∙ ap (λ r. values_bytes (share rules job edges r e)) (sym two);
+                  ap (λ s. slot_values (own_of job e) s now.0) (sym same) ∙ ap (slot_values (own_of job e) (slot_of (round - 1))) (sym same_read) ∙ before.2.values_are ∙ ap (λ r. values_bytes (share rules job edges r e)) (sym two);
             }
 
         before : IsBefore state rules job (split_for job) index edges (round + 1) changed_only mid.store
@@ -130,8 +131,11 @@ module _ {D M : Type 0} (state : D → DiskState) (faults : M → ℕ) (laws : (
         stores : StoresRound state rules (split_for job) edges (round + 1) (mid.beat + 1) (outcome ≡ Done) changed' mid.store.values.items new.store.values.items
         stores = step.made edges before
 
-        kept_before : (e : ℕ) (d : D) → e < job.engines → InEveryImage (state (get_or mid.store.values.items e d)) (Holds rules job edges (round + 1 - 1) e)
-        kept_before e d within = subst (λ r. InEveryImage (state (get_or mid.store.values.items e d)) (Holds rules job edges r e)) (sym back) (well.kept tt e d within)
+        stands_before : (e : ℕ) (d : D) → e < job.engines → Stands rules job edges (first_made start) (round + 1 - 1) e (state (get_or from.store.values.items e d)) (state (get_or mid.store.values.items e d))
+        stands_before e d within = subst (λ r. Stands rules job edges (first_made start) r e (state (get_or from.store.values.items e d)) (state (get_or mid.store.values.items e d))) (sym back) (well.kept tt e d within)
+
+        told_after : IsTold state new.store
+        told_after = told_still state mid.store new.store (kept_by_step state (split_for job) (round + 1) (mid.beat + 1) (outcome ≡ Done) mid.store new.store step.keeps) told_now
 
         due_next : GoesOn rules job.limit round changed → IsDue rules job.vertices edges job.limit (round + 1)
         due_next goes = next_is_due rules job edges round changed well.due (well.counted tt) goes
@@ -154,18 +158,24 @@ module _ {D M : Type 0} (state : D → DiskState) (faults : M → ℕ) (laws : (
         pub comes_well : GoesOn rules job.limit round changed → ComesWell state rules job start edges (outcome ≡ Done) (round + 1) changed' from new (epochs ++ more)
         comes_well goes = record {
           are = are_all;
-          kept = λ done e d within. stores.stored done e d (within_values e within);
-          behind = λ _ e d within c image.
-              before_stands rules job edges e (round + 1) (state (get_or mid.store.values.items e d)) c (omega arith) (kept_before e d within)
-              (leaves_now (mid.beat + 1) (state (get_or mid.store.values.items e d)) (state (get_or new.store.values.items e d)) (While rules job edges e (round + 1) (state (get_or mid.store.values.items e d))) (laws (get_or new.store.values.items e d))
-              (stores.any_moment e d (within_values e within)) c image);
+          kept = λ done e d within.
+              made_stands rules job edges e (first_made start) (round + 1) (state (get_or from.store.values.items e d)) (state (get_or new.store.values.items e d)) (laws (get_or new.store.values.items e d))
+              (told_after.values e d (omega (arith, within_values e within, step.keeps.values.going.many))) (stores.stored done e d (within_values e within));
+          behind = λ _ e d within.
+              before_still rules job edges e (mid.beat + 1) (first_made start) (round + 1) (state (get_or from.store.values.items e d)) (state (get_or mid.store.values.items e d)) (state (get_or new.store.values.items e d))
+              (omega arith) (laws (get_or new.store.values.items e d)) (stands_before e d within) (step.keeps.values.bytes e d (within_values e within)) (stores.any_moment e d (within_values e within));
           counted = stores.changed_are;
           due = due_next goes;
           any_stop = λ e d within.
               one_more rules job edges e from.beat (first_made start) (state (get_or from.store.values.items e d)) (state (get_or mid.store.values.items e d)) (round + 1) mid.beat
-              come.rises.0 (omega (arith, come.since, made_before_sent start)) (omega (arith, come.beat tt))
-              (state (get_or new.store.values.items e d)) new.beat (laws (get_or mid.store.values.items e d)) (come.store.values.beats e d within) step.beat.1
-              (reached_of_due rules job.vertices edges job.limit (round + 1) (due_next goes)) (λ _. kept_before e d within) (well.any_stop e d within) (stores.any_moment e d (within_values e within));
+              come.rises.0 (omega (arith, come.since, made_before_sent start)) (omega (arith, come.beat tt)) (laws (get_or mid.store.values.items e d)) (come.store.values.beats e d within)
+              (reached_of_due rules job.vertices edges job.limit (round + 1) (due_next goes)) (λ _. (stands_before e d within).images) (well.any_stop e d within)
+              (state (get_or new.store.values.items e d)) new.beat step.beat.1 (stores.any_moment e d (within_values e within));
+          since = λ e d within.
+              more_since rules job edges e from.beat (first_made start) (state (get_or from.store.values.items e d)) (state (get_or mid.store.values.items e d)) (round + 1) mid.beat
+              come.rises.0 (omega (arith, come.since, made_before_sent start)) (omega (arith, come.beat tt)) (laws (get_or mid.store.values.items e d)) (come.store.values.beats e d within)
+              (reached_of_due rules job.vertices edges job.limit (round + 1) (due_next goes)) (λ _. (stands_before e d within).images) (well.any_stop e d within)
+              (state (get_or new.store.values.items e d)) new.beat step.beat.1 (stores.any_moment e d (within_values e within)) (well.since e d within);
         }
 
       long : length (epochs ++ more) ≡ length epochs + length more

@@ -23,8 +23,8 @@ use Rattle.round_loop.specs.Opening.{OpensEdges}
 use Rattle.round_loop.specs.Keeping.{IsTold, Moment}
 use Rattle.round_loop.specs.Coming.{ComesWell, HasCome}
 use Rattle.round_loop.proofs.Reaching.{due_of_reached, reached_of_due}
-use Rattle.round_loop.proofs.Stopping.{one_more, none_yet}
-use Rattle.round_loop.proofs.Keeping.{kept_same, kept_by_step, meters_same}
+use Rattle.round_loop.proofs.Stopping.{made_stands, one_more, more_since, none_yet}
+use Rattle.round_loop.proofs.Keeping.{kept_same, kept_by_step, told_still, meters_same}
 use Rattle.round_loop.proofs.Epochs.{through_none, of_first}
 
 -- what is known of the first round
@@ -63,11 +63,12 @@ module _ {D M : Type 0} (state : D → DiskState) (faults : M → ℕ) (laws : (
     beat = λ _. omega arith;
     well = λ edges has told good. record {
       are = tt;
-      kept = λ _. good.kept round changed refl;
+      kept = λ _ e d within. record { read = good.read round changed refl e d within; images = λ had. had (omega arith) };
       behind = λ sent. absurd (omega (arith, sent));
       counted = λ _. good.counted round changed refl;
       due = due_of_reached rules job.vertices edges job.limit round (good.reached round changed refl);
       any_stop = λ e d within. none_yet rules job edges e from.beat (round + 1) (state (get_or from.store.values.items e d)) (laws (get_or from.store.values.items e d));
+      since = λ e d within b t bytes after small before stop. absurd (omega (arith, after, small));
     };
   }
 
@@ -89,21 +90,32 @@ module _ {D M : Type 0} (state : D → DiskState) (faults : M → ℕ) (laws : (
     opened_first : (edges : List Edge) → HasEdges state job (split_for job) index from.store.graphs.items edges → (x : Epoch) → x.lens ≡ lens_of index → OpensEdges rules job edges x
     opened_first edges has x is = λ cursor. ap (λ (f : ℕ → ℕ). f cursor) is ∙ has.lens cursor
 
+    told_first : IsTold state from.store → IsTold state new.store
+    told_first told = told_still state from.store new.store (kept_by_step state (split_for job) 0 (from.beat + 1) (outcome ≡ Done) from.store new.store first.keeps) told
+
     first_well : (edges : List Edge) → HasEdges state job (split_for job) index from.store.graphs.items edges → IsTold state from.store → ComesWell state rules job Fresh edges (outcome ≡ Done) 0 changed from new first.epochs.epochs
     first_well edges has told =
         let stores : StoresRound state rules (split_for job) edges 0 (from.beat + 1) (outcome ≡ Done) changed from.store.values.items new.store.values.items = first.made edges (before_first edges has told) in
         record {
           are = of_first rules job edges (λ count. count.lens ≡ lens_of index) rules.counts 1 (opened_first edges has) first.epochs.epochs first.epochs.few first.epochs.are;
-          kept = λ done e d within. stores.stored done e d (within_first e within);
+          kept = λ done e d within.
+              made_stands rules job edges e 0 0 (state (get_or from.store.values.items e d)) (state (get_or new.store.values.items e d)) (laws (get_or new.store.values.items e d))
+              ((told_first told).values e d (omega (arith, within_first e within, first.keeps.values.going.many))) (stores.stored done e d (within_first e within));
           behind = λ sent. absurd (omega (arith, sent));
           counted = stores.changed_are;
           due = due_first edges;
           any_stop = λ e d within.
               one_more rules job edges e from.beat 0 (state (get_or from.store.values.items e d)) (state (get_or from.store.values.items e d)) 0 from.beat
-              (omega arith) (omega arith) (omega arith)
-              (state (get_or new.store.values.items e d)) new.beat (laws (get_or from.store.values.items e d)) (ready.values.beats e d within) first.beat.1
-              (reached_of_due rules job.vertices edges job.limit 0 (due_first edges)) (λ later. absurd (omega (arith, later)))
-              (none_yet rules job edges e from.beat 0 (state (get_or from.store.values.items e d)) (laws (get_or from.store.values.items e d))) (stores.any_moment e d (within_first e within));
+              (omega arith) (omega arith) (omega arith) (laws (get_or from.store.values.items e d)) (ready.values.beats e d within)
+              (reached_of_due rules job.vertices edges job.limit 0 (due_first edges)) (λ later had. absurd (omega (arith, later)))
+              (none_yet rules job edges e from.beat 0 (state (get_or from.store.values.items e d)) (laws (get_or from.store.values.items e d)))
+              (state (get_or new.store.values.items e d)) new.beat first.beat.1 (stores.any_moment e d (within_first e within));
+          since = λ e d within.
+              more_since rules job edges e from.beat 0 (state (get_or from.store.values.items e d)) (state (get_or from.store.values.items e d)) 0 from.beat
+              (omega arith) (omega arith) (omega arith) (laws (get_or from.store.values.items e d)) (ready.values.beats e d within)
+              (reached_of_due rules job.vertices edges job.limit 0 (due_first edges)) (λ later had. absurd (omega (arith, later)))
+              (none_yet rules job edges e from.beat 0 (state (get_or from.store.values.items e d)) (laws (get_or from.store.values.items e d)))
+              (state (get_or new.store.values.items e d)) new.beat first.beat.1 (stores.any_moment e d (within_first e within)) (λ b t bytes after small before stop. absurd (omega (arith, after, small)));
         }
 
     -- round 0

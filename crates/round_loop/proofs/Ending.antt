@@ -30,9 +30,9 @@ use Rattle.round_loop.specs.declared.run.Done.{Done}
 use Rattle.round_loop.specs.declared.fault.RoundFault.{RoundFault}
 use Rattle.round_loop.specs.declared.fault.RoundFault.TheVariants as faulty
 use Rattle.round_loop.specs.Answers.{IsFaultOf}
-use Rattle.round_loop.specs.Starts.{split_for, first_made, first_sent, counts_first, IsLastBegun}
+use Rattle.round_loop.specs.Starts.{split_for, first_made, first_sent, counts_first, epochs_to, IsLastBegun}
 use Rattle.round_loop.specs.Opening.{AreEpochsOf}
-use Rattle.round_loop.specs.Kept.{IsKept}
+use Rattle.round_loop.specs.Kept.{StandsAfter}
 use Rattle.round_loop.specs.Keeping.{IsTold, Moment, moment}
 use Rattle.round_loop.specs.Coming.{EndsAt, ComesWell, HasCome}
 use Rattle.round_loop.specs.Run.{HasRun}
@@ -77,13 +77,13 @@ sent_some (start_of.At round changed) = omega arith
 
 module _ {D M : Type 0} (state : D → DiskState) (faults : M → ℕ) (rules : Rules) (job : Job) (start : Start) (index : List (List Place)) where
   module _ (done : Type 0) (round changed took helped : ℕ) (from new : Moment D M) (epochs : List Epoch) (come : HasCome state faults rules job start index done round changed took helped from new epochs) where
-    stored_at : (edges : List Edge) → ComesWell state rules job start edges done round changed from new epochs → (r : ℕ) → IsLastBegun rules start epochs r → IsKept rules job edges state (r - 1) new.store.values.items
+    stored_at : (edges : List Edge) → ComesWell state rules job start edges done round changed from new epochs → (r : ℕ) → IsLastBegun rules start epochs r → StandsAfter rules job edges state start (r - 1) from.store.values.items new.store.values.items
     stored_at edges well r last = elim (cases_lt round (first_sent start)) [
       | inl early ↦ absurd (omega (arith, early, last.begun, come.most))
       | inr sent ↦
           let same : r ≡ round
           = same_round (if counts_first rules start then 1 else 0) (first_sent start) round r (length epochs) (come.begun sent) come.most last.begun last.within (omega (arith, sent, sent_some start)) last.later in
-          subst (λ k. IsKept rules job edges state (k - 1) new.store.values.items) (sym same) (well.behind sent)
+          subst (λ k. StandsAfter rules job edges state start (k - 1) from.store.values.items new.store.values.items) (sym same) (well.behind sent)
     ]
 
     through : GoesThrough (terms_of job) from.seat new.seat (claims (flat_map all_calls epochs)) (admissions (flat_map all_calls epochs)) epochs
@@ -122,6 +122,7 @@ module _ {D M : Type 0} (state : D → DiskState) (faults : M → ℕ) (rules : 
             settles = λ _. refl;
             stored = stored_at edges well;
             any_stop = well.any_stop;
+            since = well.since;
           };
     }
 
@@ -151,6 +152,7 @@ module _ {D M : Type 0} (state : D → DiskState) (faults : M → ℕ) (rules : 
               settles = λ unsettled. absurd (unsettled_has_no_last rules job.vertices edges job.limit round unsettled last);
               stored = stored_at edges well;
               any_stop = well.any_stop;
+              since = well.since;
             };
       }
 
@@ -175,10 +177,11 @@ module _ {D M : Type 0} (state : D → DiskState) (faults : M → ℕ) (rules : 
             record {
               are = well.are;
               last = tt;
-              unsettled = λ _. (found.0, subst (λ k. IsKept rules job edges state k new.store.values.items) found.1 (well.kept is_done));
+              unsettled = λ _. (found.0, subst (λ k. length epochs ≡ epochs_to rules start k) found.1 (come.many is_done), subst (λ k. StandsAfter rules job edges state start k from.store.values.items new.store.values.items) found.1 (well.kept is_done));
               settles = λ _. refl;
               stored = stored_at edges well;
               any_stop = well.any_stop;
+              since = well.since;
             };
       }
 
@@ -204,6 +207,7 @@ module _ {D M : Type 0} (state : D → DiskState) (faults : M → ℕ) (rules : 
       settles = λ _. refl;
       stored = λ r last. absurd (omega (arith, last.begun));
       any_stop = λ e d within. none_yet rules job edges e from.beat (first_made start) (state (get_or from.store.values.items e d)) (laws (get_or from.store.values.items e d));
+      since = λ e d within b t bytes after small before stop. absurd (omega (arith, after, small));
     };
   }
 
@@ -261,5 +265,5 @@ module _ {D M : Type 0} (state : D → DiskState) (faults : M → ℕ) (rules : 
       sound = run.sound;
       well = λ edges has told good.
           let well = run.well edges has told good in
-          record { are = well.are; last = well.last; unsettled = well.unsettled; settles = well.settles; stored = well.stored; any_stop = well.any_stop };
+          record { are = well.are; last = well.last; unsettled = well.unsettled; settles = well.settles; stored = well.stored; any_stop = well.any_stop; since = well.since };
     }

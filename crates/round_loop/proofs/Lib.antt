@@ -1,5 +1,5 @@
 mod Reaching
-mod SlotBytes
+pub mod SlotBytes
 mod Stopping
 mod Keeping
 mod Epochs

@@ -41,6 +41,7 @@ module _ {D M : Type 0} (state : D → DiskState) (faults : M → ℕ) (rules : 
     counted = λ _. well.counted is;
     due = well.due;
     any_stop = well.any_stop;
+    since = well.since;
   }
 
   done_come : (start : Start) (done : Type 0) (round changed took helped : ℕ) (from new : Moment D M) (epochs : List Epoch) → done → HasCome state faults rules job start index done round changed took helped from new epochs →

@@ -16,7 +16,7 @@ use Rattle.round_loop.specs.declared.run.Start.{Start}
 use Rattle.round_loop.specs.declared.course.Progress.{Progress}
 use Rattle.round_loop.specs.Starts.{split_for, first_made, first_sent, counts_first, epochs_to, IsDue}
 use Rattle.round_loop.specs.Opening.{AreEpochsOf}
-use Rattle.round_loop.specs.Kept.{changed_in, Left, IsKept, IsGoodStart}
+use Rattle.round_loop.specs.Kept.{changed_in, Left, LeftSince, StandsAfter, IsGoodStart}
 use Rattle.round_loop.specs.Keeping.{Keeps, IsTold, Moment}
 
 -- a further round is to be made
@@ -39,12 +39,14 @@ module _ {D M : Type 0} (state : D → DiskState) (rules : Rules) (job : Job) (s
   -- so far on a good store: where the round is done it stands, and the round before stands in any case
   pub record ComesWell (done : Type 0) (round changed : ℕ) (old new : Moment D M) (epochs : List Epoch) : Type 0 where
     pub are : AreEpochsOf rules job edges (counts_first rules start) (first_sent start) epochs
-    pub kept : done → IsKept rules job edges state round new.store.values.items
-    pub behind : first_sent start ≤ round → IsKept rules job edges state (round - 1) new.store.values.items
+    pub kept : done → StandsAfter rules job edges state start round old.store.values.items new.store.values.items
+    pub behind : first_sent start ≤ round → StandsAfter rules job edges state start (round - 1) old.store.values.items new.store.values.items
     pub counted : done → changed ≡ changed_in rules job edges round
     pub due : IsDue rules job.vertices edges job.limit round
     pub any_stop : (e : ℕ) (d : D) → e < job.engines → LeavesByBeat (state (slice_index_or old.store.values.items e d)) (state (slice_index_or new.store.values.items e d))
         (λ b bytes. b ≤ new.beat → Left rules job edges old.beat (first_made start) e (state (slice_index_or old.store.values.items e d)) b bytes)
+    pub since : (e : ℕ) (d : D) → e < job.engines
+        → LeftSince rules job edges old.beat (first_made start) new.beat e (state (slice_index_or old.store.values.items e d)) (state (slice_index_or new.store.values.items e d))
 
 module _ {D M : Type 0} (state : D → DiskState) (faults : M → ℕ) (rules : Rules) (job : Job) (start : Start) (index : List (List Place)) where
   -- **A run has come to a round**, which is done or not; so many epochs were made, and so many of their replies took chunks and admitted help

@@ -1,5 +1,5 @@
 -- Rounds on the values devices of a store, and what a stop leaves of these while a run goes on.
-use Rattle.std.specs.Prelude.{◌≡◌, ◌⊎◌, ℕ, ◌+◌, ◌-◌, ◌<◌, ◌≤◌, List, length, slice_index_or}
+use Rattle.std.specs.Prelude.{◌≡◌, ◌⊎◌, ℕ, ◌+◌, ◌-◌, ◌<◌, ◌≤◌, Some, List, length, slice_index_or}
 use Rattle.std.specs.List.{range_with_len}
 use Rattle.graph_model.specs.declared.edge.Edge.{Edge}
 use Rattle.graph_model.specs.declared.value.Value.{Value}
@@ -12,7 +12,7 @@ use Rattle.store_model.specs.Slots.{slot_of, slot_bytes, IsClosed, HoldsRound}
 use Rattle.apply_round.specs.Made.{changed_among}
 use Rattle.round_loop.specs.declared.run.Start.{Start}
 use Rattle.round_loop.specs.declared.run.Start.TheVariants.{At}
-use Rattle.round_loop.specs.Starts.{IsReached}
+use Rattle.round_loop.specs.Starts.{first_made, IsReached}
 
 module _ (rules : Rules) (job : Job) (edges : List Edge) where
   abbrev pub round_values : (round : ℕ) → List Value
@@ -34,6 +34,19 @@ module _ (rules : Rules) (job : Job) (edges : List Edge) where
   abbrev pub Holds : (round e : ℕ) → List ℕ → Type 0
   Holds round e bytes = HoldsRound (own_of job e) (slot_of round) round (changed_by round (own_vertices job e)) (share round e) bytes
 
+  -- a read of the values device of an engine gives a round
+  abbrev pub Gives : (round e : ℕ) → DiskState → Type 0
+  Gives round e disk = (told : List ℕ) × (disk.bytes ≡ Some told) × Holds round e told
+
+  -- a round before the first that a run made stood in every image of the device at the start
+  abbrev pub HasStood : (first round e : ℕ) → (start : DiskState) → Type 0
+  HasStood first round e start = round < first → InEveryImage start (Holds round e)
+
+  -- **A round stands on an engine after a run, which made this one first**: a read gives it, and it stands in every image, if it did so at the start or was made since
+  pub record Stands (first round e : ℕ) (start now : DiskState) : Type 0 where
+    pub read : Gives round e now
+    pub images : HasStood first round e start → InEveryImage now (Holds round e)
+
   -- a slot is as in an image of the start, or closed, or has a round that the run may come to
   abbrev pub SlotLeft : (e : ℕ) → (start : DiskState) → (slot : ℕ) → List ℕ → Type 0
   SlotLeft e start slot bytes =
@@ -48,15 +61,27 @@ module _ (rules : Rules) (job : Job) (edges : List Edge) where
     pub long : (image : List ℕ) × start.images image × (length bytes ≡ length image)
     pub slots : (slot : ℕ) → slot < 2 → SlotLeft e start slot bytes
     -- in the beat in which a round is made, the round before it stands
-    pub stands : (round : ℕ) → first ≤ round → 1 ≤ round → b ≡ number + 1 + (round - first) → Holds (round - 1) e bytes
+    pub stands : (round : ℕ) → first ≤ round → 1 ≤ round → b ≡ number + 1 + (round - first) → HasStood first (round - 1) e start → Holds (round - 1) e bytes
+
+  -- **In the beats after that of this number, up to the last, a stop leaves this of the device**, from whatever moment before the run on it is counted
+  abbrev pub LeftSince : (number first last e : ℕ) → (old new : DiskState) → Type 0
+  LeftSince number first last e old new = (b t : ℕ) (bytes : List ℕ) → number < b → b ≤ last → t ≤ old.moment → new.stops b t bytes → Left number first e old b bytes
 
   module _ {D : Type 0} (state : D → DiskState) where
     -- the round stands on every engine, in every image
     abbrev pub IsKept : (round : ℕ) → List D → Type 0
     IsKept round devices = (e : ℕ) (d : D) → e < job.engines → InEveryImage (state (slice_index_or devices e d)) (Holds round e)
 
-    -- **A good start**: a round that is handed in stands on every engine, so many vertices changed in it, and the run may come to it
+    -- a read of every engine gives the round
+    abbrev pub IsRead : (round : ℕ) → List D → Type 0
+    IsRead round devices = (e : ℕ) (d : D) → e < job.engines → Gives round e (state (slice_index_or devices e d))
+
+    -- the round stands on every engine after a run
+    abbrev pub StandsAfter : Start → (round : ℕ) → (old new : List D) → Type 0
+    StandsAfter start round old new = (e : ℕ) (d : D) → e < job.engines → Stands (first_made start) round e (state (slice_index_or old e d)) (state (slice_index_or new e d))
+
+    -- **A good start**: a round that is handed in is read on every engine, so many vertices changed in it, and the run may come to it
     pub record IsGoodStart (start : Start) (devices : List D) : Type 0 where
-      pub kept : (round changed : ℕ) → start ≡ At round changed → IsKept round devices
+      pub read : (round changed : ℕ) → start ≡ At round changed → IsRead round devices
       pub counted : (round changed : ℕ) → start ≡ At round changed → changed ≡ changed_in round
       pub reached : (round changed : ℕ) → start ≡ At round changed → IsReached rules job.vertices edges job.limit round

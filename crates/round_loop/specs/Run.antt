@@ -21,7 +21,7 @@ use Rattle.round_loop.specs.declared.fault.RoundFault.{RoundFault}
 use Rattle.round_loop.specs.declared.fault.RoundFault.TheVariants.{RoundLimit, DiskFault, Damaged}
 use Rattle.round_loop.specs.Starts.{split_for, first_made, first_sent, counts_first, epochs_to, IsLastBegun}
 use Rattle.round_loop.specs.Opening.{AreEpochsOf}
-use Rattle.round_loop.specs.Kept.{Left, IsKept, IsGoodStart}
+use Rattle.round_loop.specs.Kept.{Left, LeftSince, StandsAfter, IsGoodStart}
 use Rattle.round_loop.specs.Keeping.{Keeps, IsTold, Moment}
 
 module _ {D M : Type 0} (state : D → DiskState) (rules : Rules) (job : Job) (start : Start) (edges : List Edge) where
@@ -29,15 +29,18 @@ module _ {D M : Type 0} (state : D → DiskState) (rules : Rules) (job : Job) (s
   pub record RunsWell (old new : Moment D M) (epochs : List Epoch) (result : Result Done RoundFault) : Type 0 where
     pub are : AreEpochsOf rules job edges (counts_first rules start) (first_sent start) epochs
     -- the last round stands
-    pub last : IfOk result (λ done. IsLastRound rules job.vertices edges job.limit done.round × IsKept rules job edges state done.round new.store.values.items)
-    -- there is none within the limit, and the limit's round stands
-    pub unsettled : IsErrOf result RoundLimit → IsUnsettled rules job.vertices edges job.limit × IsKept rules job edges state job.limit new.store.values.items
+    pub last : IfOk result (λ done. IsLastRound rules job.vertices edges job.limit done.round × StandsAfter rules job edges state start done.round old.store.values.items new.store.values.items)
+    -- there is none within the limit, and the limit's round stands, which was made or handed in: the run has all epochs to its end
+    pub unsettled : IsErrOf result RoundLimit → IsUnsettled rules job.vertices edges job.limit × (length epochs ≡ epochs_to rules start job.limit) × StandsAfter rules job edges state start job.limit old.store.values.items new.store.values.items
     pub settles : IsUnsettled rules job.vertices edges job.limit → IsErr result
     -- the round before the one in which the run has ended stands
-    pub stored : (round : ℕ) → IsLastBegun rules start epochs round → IsKept rules job edges state (round - 1) new.store.values.items
+    pub stored : (round : ℕ) → IsLastBegun rules start epochs round → StandsAfter rules job edges state start (round - 1) old.store.values.items new.store.values.items
     -- what a stop leaves
     pub any_stop : (e : ℕ) (d : D) → e < job.engines → LeavesByBeat (state (slice_index_or old.store.values.items e d)) (state (slice_index_or new.store.values.items e d))
         (λ b bytes. b ≤ new.beat → Left rules job edges old.beat (first_made start) e (state (slice_index_or old.store.values.items e d)) b bytes)
+    -- the same in the beats of the run, where a stop is counted from before it
+    pub since : (e : ℕ) (d : D) → e < job.engines
+        → LeftSince rules job edges old.beat (first_made start) new.beat e (state (slice_index_or old.store.values.items e d)) (state (slice_index_or new.store.values.items e d))
 
 module _ {D M : Type 0} (state : D → DiskState) (faults : M → ℕ) (rules : Rules) (job : Job) (start : Start) (index : List (List Place)) where
   -- **A run, whatever it is handed and whatever it answers**

@@ -32,7 +32,7 @@ use store_reader::Store;
 pub enum Start {
     /// At the beginning.
     Fresh,
-    /// At this round, which stands on every engine, and in which so many values changed.
+    /// At this round, which a read of every engine gives, and in which so many values changed.
     At { round: u64, changed: u64 },
 }
 

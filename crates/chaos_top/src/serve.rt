@@ -1,0 +1,76 @@
+// What each command does.
+ghost use Rattle.std.specs.Prelude.{◌≡◌, ℕ, ◌+◌, ◌^◌, ◌≤◌, List, map, string_bytes};
+ghost use Rattle.job_words.specs.Commands.{command_of, engines_of};
+ghost use Rattle.round_loop.specs.Keeping.{moment};
+ghost use Rattle.run_model.specs.Calls.{IsReady};
+ghost use Rattle.chaos_top.specs.Outcome.{IsOutcome};
+
+use chunk_cursor::{CursorSeat, CursorTable};
+use endings::Ending;
+use job_words::{Command, WordFault, job_of};
+use ports::{Beat, Disk, Gate, Sink, Source};
+use restart::drop_store;
+use std::alloc::Global;
+use std::thread::Threads;
+use store_reader::Store;
+use store_resume::resume_store;
+use text_run::run_text;
+
+/// Does what the words ask for, or refuses them.
+pub(crate) fn serve<R: Threads + Sync, S: Source, K: Sink, D: Disk, G: Gate + Sync>(
+    rt: &R,
+    alloc: Global,
+    words: &[String],
+    source: &mut S,
+    out: &mut K,
+    store: &mut Store<D>,
+    meters: &mut Vec<D::M>,
+    table: &CursorTable,
+    seat: &mut CursorSeat,
+    gate: &G,
+    beat: &mut Beat,
+) -> Ending
+    requires ready { IsReady D.state (engines_of (command_of (map string_bytes words.now))) (moment store.old meters.old.items seat.old.view beat.old) }
+    requires table { seat.old.table ≡ table.now }
+    requires beat { beat.old ≤ 2 ^ 63 + 1 }
+    ensures table { seat.new.table ≡ seat.old.table }
+    // Whatever the ending, a further call may be made of a command of as many engines.
+    ensures ready { IsReady D.state (engines_of (command_of (map string_bytes words.now))) (moment store.new meters.new.items seat.new.view beat.new) }
+    ensures outcome { IsOutcome D.state D.M.faults (record {
+      text = S.left source.old;
+      text_after = S.left source.new;
+      read_faults = S.faults source.old;
+      read_faults_after = S.faults source.new;
+      out = K.written out.old;
+      out_after = K.written out.new;
+      write_faults = K.faults out.old;
+      write_faults_after = K.faults out.new;
+      before = moment store.old meters.old.items seat.old.view beat.old;
+      after = moment store.new meters.new.items seat.new.view beat.new;
+    }) (command_of (map string_bytes words.now)) result }
+{
+    match job_of(alloc, words) {
+        Ok(Command::Run { job, report: false }) => run_text(
+            rt, alloc, &job, source, out, store, meters, table, seat, gate, beat,
+        ),
+        Ok(
+            Command::Resume {
+                engines,
+                report: false,
+            },
+        ) => resume_store(
+            rt, alloc, engines, out, store, meters, table, seat, gate, beat,
+        ),
+        Ok(Command::Discard { engines }) => give_up(store, &mut meters[engines as usize], beat),
+        Ok(_) | Err(WordFault::Usage) => Ending::Usage,
+        Err(WordFault::Memory) => Ending::Memory,
+    }
+}
+
+/// Gives the store up.
+fn give_up<D: Disk>(store: &mut Store<D>, meter: &mut D::M, beat: &mut Beat) -> Ending {
+    match drop_store(store, meter, beat) {
+        Ok(()) => Ending::Dropped,
+        Err(_) => Ending::DiskFault,
+    }
+}

@@ -1,0 +1,9 @@
+pub mod Places
+pub mod Onward
+pub mod SameRounds
+pub mod SlotBytes
+pub mod Left
+pub mod Starting
+pub mod Answering
+pub mod Stores
+pub mod Beginning

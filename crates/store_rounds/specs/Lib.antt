@@ -1,0 +1,4 @@
+pub mod Images
+pub mod Going
+pub mod Making
+pub mod Printed
