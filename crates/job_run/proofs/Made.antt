@@ -1,16 +1,32 @@
 -- The store that was prepared for a job, with lanes and spills to which nothing was written.
-use Rattle.std.proofs.Common.{◌≡◌, ℕ, ◌<◌, ◌≤◌, Option, List, Vec, vec_len, Result, Ok, OnOk, get_or, subst, arith}
+use Rattle.std.proofs.Common.{◌≡◌, ℕ, ◌<◌, ◌≤◌, Option, List, Vec, length, vec_len, Result, Ok, OnOk, IfOk, get_or, inl, inr, ap, subst, arith}
 use Rattle.std.specs.Global.{Global}
 use Rattle.std.specs.List.{All}
+use Rattle.std.proofs.lemmas.Bool.{cases_lt}
+use Rattle.std.proofs.lemmas.List.{get_or_past}
 use Rattle.std.proofs.lemmas.List.Elements.{All-get_or}
 use Rattle.graph_model.specs.declared.job.Job.{Job}
 use Rattle.ports.specs.Disk.{DiskState}
+use Rattle.chunk_object.specs.History.{most_chunks}
 use Rattle.chunk_file.specs.declared.index.Place.{Place}
+use Rattle.chunk_file.specs.declared.index.TheConstants.{MOST_PLACES}
+use Rattle.chunk_file.specs.Places.{no_places, total_of}
+use Rattle.chunk_file.proofs.Lists.{list_in_total}
+use Rattle.store_reader.specs.Indexed.{lens_of}
 use Rattle.store_reader.specs.declared.store.Store.{Store}
 use Rattle.storage_engine.specs.declared.fault.PrepareFault.{PrepareFault}
 use Rattle.storage_engine.specs.Preparing.{Prepares, IsMadeValues}
 use Rattle.round_steps.specs.Going.{AreDevices, AreRows, IsStore}
 use Rattle.round_loop.specs.Starts.{split_for}
+
+-- no cursor has more chunks than there are places in all
+pub few_made : (result : Result (List (List Place)) PrepareFault) (index : List (List Place)) → result ≡ Ok index → IfOk result (λ index. total_of index ≤ MOST_PLACES) → (cursor : ℕ) → lens_of index cursor ≤ most_chunks
+few_made result index is few cursor =
+    let total : total_of index ≤ MOST_PLACES = subst (λ (r : Result (List (List Place)) PrepareFault). IfOk r (λ index. total_of index ≤ MOST_PLACES)) is few in
+    elim (cases_lt cursor (length index)) [
+      | inl below ↦ let one = list_in_total index cursor below in omega (arith, one, total)
+      | inr past ↦ let none = ap length (get_or_past index cursor no_places past) in omega (arith, none)
+    ]
 
 module _ {D : Type 0} (state : D → DiskState) where
   -- nothing was written to any device of a row
