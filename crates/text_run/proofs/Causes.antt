@@ -41,8 +41,7 @@ module _ {D M : Type 0} (state : D → DiskState) (faults : M → ℕ) (job : Jo
   -- some graph device that is not open is one, where the devices tell
   pub unprepared : SomeShut state call.before.store.graphs.items → AreUnprepared
   unprepared shut graphs tells =
-      let d : D = any_of call.before.store.graphs.items shut.0 shut.1 in
-      (
+      let d : D = any_of call.before.store.graphs.items shut.0 shut.1 in (
         shut.0,
         omega (arith, shut.1, tells.graphs.many),
         subst (λ (x : Option (List ℕ)). IfSome x IsShutGraph) (tells.graphs.told shut.0 d shut.1) (shut.2 d),

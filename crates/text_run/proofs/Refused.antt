@@ -123,7 +123,7 @@ module _ {D M : Type 0} (state : D → DiskState) (faults : M → ℕ) (job : Jo
       }
 
   -- **A run whose store was not made**
-  pub refused_run : IsRun state faults job call (refusal (text_limit job.chunk) why)
+  refused_run : IsRun state faults job call (refusal (text_limit job.chunk) why)
   refused_run =
       let cause = cause_of state faults job call why prepares.cause in
       record {
@@ -138,3 +138,6 @@ module _ {D M : Type 0} (state : D → DiskState) (faults : M → ℕ) (job : Jo
         stands = stands_of state faults job call (text_limit job.chunk) why prepares.shut;
         stops = stops;
       }
+
+  pub refused_as : (ending : Ending) → ending ≡ refusal (text_limit job.chunk) why → IsRun state faults job call ending
+  refused_as ending is = subst (λ (e : Ending). IsRun state faults job call e) (sym is) refused_run

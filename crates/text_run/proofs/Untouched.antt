@@ -81,7 +81,7 @@ leaves_untouched {D} state lawful job call many same beat = record {
       let stop = stop_of_each state b call.before.store.graphs.items call.after.store.graphs.items graphs stop_graphs in
       let there = stop.each shut.0 d (omega (arith, shut.1, many)) in
       let image = (lawful (get_or call.before.store.graphs.items shut.0 d)).only_now b (device graphs shut.0)
-          (subst (λ (store : Store D _). (state (get_or store.graphs.items shut.0 d)).stops b (state (get_or call.before.store.graphs.items shut.0 d)).moment (device graphs shut.0)) same there) in
+      (subst (λ (store : Store D _). (state (get_or store.graphs.items shut.0 d)).stops b (state (get_or call.before.store.graphs.items shut.0 d)).moment (device graphs shut.0)) same there) in
       inl (shut.0, omega (arith, shut.1, many, stop.many), shut.2 d (device graphs shut.0) image);
   in_rounds = λ text text_is told tells round from b graphs values within stop_graphs stop_values is. absurd (omega (arith, within, beat, is));
 }
