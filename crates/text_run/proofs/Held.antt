@@ -1,8 +1,7 @@
 -- Runs that end before the store is touched.
-use Rattle.std.proofs.Common.{◌≡◌, ◌∙◌, ◌⊎◌, inl, inr, ℕ, ◌+◌, ◌<◌, ◌≤◌, List, [], length, Option, Some, refl, sym, subst, arith}
+use Rattle.std.proofs.Common.{◌∙◌, inl, inr, ℕ, List, [], Option, refl, arith}
 use Rattle.std.specs.List.{All}
 use Rattle.ports.specs.Disk.{DiskState, IsDisk}
-use Rattle.ports.specs.Faults.{Rose}
 use Rattle.graph_model.specs.declared.job.Job.{Job}
 use Rattle.graph_model.specs.Answer.{edges}
 use Rattle.store_reader.specs.declared.store.Store.{Store}

@@ -1,15 +1,12 @@
 -- A store was not made.
-use Rattle.std.proofs.Common.{◌≡◌, ◌∙◌, ◌⊎◌, inl, inr, ℕ, ◌+◌, ◌<◌, ◌≤◌, List, [], length, Option, Some, IfSome, Err, refl, sym, subst, arith}
-use Rattle.ports.specs.Disk.{DiskState, IsDisk, InEveryImage}
+use Rattle.std.proofs.Common.{◌≡◌, ◌∙◌, ◌⊎◌, inl, inr, ℕ, List, [], Option, Some, Err, refl, sym, subst, arith}
+use Rattle.ports.specs.Disk.{DiskState}
 use Rattle.ports.specs.Faults.{Rose}
 use Rattle.graph_model.specs.declared.edge.TextFault.TheVariants as fault
 use Rattle.graph_model.specs.declared.job.Job.{Job}
 use Rattle.graph_model.specs.EdgeText.{text_limit}
 use Rattle.graph_model.specs.Answer.{edges, refusal_of, IsAccepted}
 use Rattle.chunk_cursor.specs.declared.view.View.{View}
-use Rattle.chunk_file.specs.declared.index.Place.{Place}
-use Rattle.store_model.specs.Heads.{IsShutGraph}
-use Rattle.store_model.specs.Kept.{IsUnprepared, IsWholeStore}
 use Rattle.store_reader.specs.declared.store.Store.{Store}
 use Rattle.store_reader.specs.Devices.{SomeShut}
 use Rattle.storage_engine.specs.declared.fault.PrepareFault.{PrepareFault}

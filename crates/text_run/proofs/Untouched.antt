@@ -1,18 +1,16 @@
 -- A call that has made no round: what it printed, what the seat went through, and what a stop leaves of devices that no
 -- call has touched.
-use Rattle.std.proofs.Common.{◌≡◌, ◌∙◌, ◌⊎◌, inl, inr, ℕ, ◌+◌, ◌<◌, ◌≤◌, Bool, true, false, List, [], ◌++◌, length, map, Option, Some, get_or, refl, sym, subst, arith, append-nil}
+use Rattle.std.proofs.Common.{◌≡◌, inl, ℕ, Bool, true, false, List, [], length, Option, get_or, refl, sym, subst, arith, append-nil}
 use Rattle.ports.specs.Disk.{DiskState, IsDisk}
 use Rattle.ports.specs.Sink.{Appends}
 use Rattle.ports.proofs.Told.{as_told_same}
 use Rattle.graph_model.specs.declared.edge.Edge.{Edge}
 use Rattle.graph_model.specs.declared.job.Job.{Job}
 use Rattle.graph_model.specs.Programs.{Rules, rules_of}
-use Rattle.graph_model.specs.Answer.{edges}
 use Rattle.chunk_object.specs.Epochs.{Terms}
 use Rattle.chunk_cursor.specs.declared.view.View.{View}
 use Rattle.phase_model.specs.JobTerms.{terms_of}
-use Rattle.store_model.specs.Heads.{IsShutGraph}
-use Rattle.store_model.specs.Kept.{device, IsUnprepared}
+use Rattle.store_model.specs.Kept.{device}
 use Rattle.store_reader.specs.declared.store.Store.{Store}
 use Rattle.apply_round.proofs.Desks.{any_of}
 use Rattle.epoch_seats.specs.Between.{IsBetweenEpochs}
@@ -22,11 +20,11 @@ use Rattle.round_loop.specs.Opening.{AreEpochsOf}
 use Rattle.store_rounds.proofs.Places.{stop_of_each}
 use Rattle.endings.specs.declared.ending.Report.{Report}
 use Rattle.endings.specs.declared.ending.Ending.{Ending}
-use Rattle.endings.specs.declared.ending.Ending.TheVariants.{Answered, WriteFault, RoundLimit}
+use Rattle.endings.specs.declared.ending.Ending.TheVariants.{Answered}
 use Rattle.run_model.specs.Calls.{Call}
 use Rattle.run_model.specs.Printing.{PrintsNothing}
 use Rattle.run_model.specs.Epochs.{IsComplete, HasGone, AreJobEpochs}
-use Rattle.run_model.specs.Stops.{SomeShut, LeavesStores}
+use Rattle.run_model.specs.Stops.{LeavesStores}
 
 -- nothing was printed
 pub prints_nothing : {D M : Type 0} (state : D → DiskState) (job : Job) (call : Call D M) → call.out_after ≡ call.out → PrintsNothing state job call

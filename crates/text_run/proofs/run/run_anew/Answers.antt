@@ -1,5 +1,5 @@
 -- There was no memory, the store was not made, or it was, and the job was run.
-use Rattle.std.proofs.Common.{◌≡◌, ◌∙◌, ◌<◌, ◌≤◌, List, length, slice_set, sym, ap, subst, arith}
+use Rattle.std.proofs.Common.{◌∙◌, ◌<◌, ◌≤◌, List, length, slice_set, sym, ap, subst, arith}
 use Rattle.ports.specs.Faults.{Rose}
 use Rattle.round_steps.specs.Going.{MetersGoOn}
 use Rattle.round_steps.proofs.Kept.{meters_then}
