@@ -1,5 +1,5 @@
 -- **What a resume promises**: the rounds of the job that stands on the devices, from the round that they keep.
-use Rattle.std.specs.Prelude.{◌≡◌, ◌⊎◌, ⊤, ℕ, ◌≤◌, List, map}
+use Rattle.std.specs.Prelude.{◌≡◌, ◌⊎◌, ⊤, ℕ, ◌≤◌, List, [], true, map}
 use Rattle.ports.specs.Disk.{DiskState}
 use Rattle.ports.specs.Faults.{Rose}
 use Rattle.ports.specs.Stops.{AreImages}
@@ -11,10 +11,9 @@ use Rattle.graph_model.specs.Answer.{NeverSettles}
 use Rattle.chunk_object.specs.Epochs.{Epoch}
 use Rattle.store_model.specs.Damage as damage
 use Rattle.store_model.specs.Damage.{HasFault}
-use Rattle.store_model.specs.Kept.{IsPrepared, IsWholeStore, StoreOf, IsEverywhere, IsKeptRound, IsFresh}
+use Rattle.store_model.specs.Kept.{IsWholeStore, StoreOf, IsEverywhere, IsKeptRound, IsFresh}
 use Rattle.store_checks.specs.Causes.{Tell}
-use Rattle.store_reader.specs.declared.store.Part.{Part}
-use Rattle.store_reader.specs.declared.store.Part.TheVariants.{Graph, Values, Lane}
+use Rattle.store_reader.specs.declared.store.Part.TheVariants.{Graph, Values}
 use Rattle.restart.specs.Storable.{IsStorable}
 use Rattle.restart.specs.Resuming.{changed_of_all}
 use Rattle.round_loop.specs.Keeping.{IsTold}
@@ -24,7 +23,7 @@ use Rattle.endings.specs.declared.ending.Ending.{Ending}
 use Rattle.endings.specs.declared.ending.Ending.TheVariants.{Answered, Dropped, Usage, BadLine, DiskFault, RoundLimit, Memory, ReadFault, WriteFault, NotPrepared, EnginesDiffer, Damaged, TooLong, StoreHolds}
 use Rattle.run_model.specs.Calls.{Call, AnyRose, IsBack}
 use Rattle.run_model.specs.Causes.{is_interrupted, IsAnswered, Comes}
-use Rattle.run_model.specs.Printing.{PrintsNothing, PrintsAnswer, PrintsFront}
+use Rattle.run_model.specs.Printing.{Prints, PrintsAnswer, PrintsFront}
 use Rattle.run_model.specs.Epochs.{HasGone, AreJobEpochs}
 use Rattle.run_model.specs.Standing.{IsStored}
 use Rattle.run_model.specs.Stops.{AtEachStop}
@@ -79,7 +78,7 @@ module _ {D M : Type 0} (state : D → DiskState) (faults : M → ℕ) (call : C
   HasPrintedNothing (Answered report) = ⊤
   HasPrintedNothing WriteFault = ⊤
   HasPrintedNothing DiskFault = ⊤
-  HasPrintedNothing _ = PrintsNothing state call
+  HasPrintedNothing _ = Prints call.out call.out_after []
 
   -- a refusal leaves all devices as they were
   abbrev pub HasRefused : Ending → Type 0
@@ -94,7 +93,7 @@ module _ {D M : Type 0} (state : D → DiskState) (faults : M → ℕ) (call : C
     HasCauseOfJob (Answered report) = (¬ (NeverSettles job edges)) × PrintsAnswer job edges call.out call.out_after
     HasCauseOfJob (RoundLimit limit) = (limit ≡ job.limit) × NeverSettles job edges
     HasCauseOfJob WriteFault = PrintsFront job edges call.out call.out_after
-    HasCauseOfJob DiskFault = PrintsNothing state call ⊎ PrintsFront job edges call.out call.out_after
+    HasCauseOfJob DiskFault = Prints call.out call.out_after [] ⊎ PrintsFront job edges call.out call.out_after
     HasCauseOfJob NotPrepared = ⊥
     HasCauseOfJob (EnginesDiffer held asked) = ⊥
     HasCauseOfJob (Damaged part engine place) = ⊥
@@ -109,13 +108,12 @@ module _ {D M : Type 0} (state : D → DiskState) (faults : M → ℕ) (call : C
 
     -- **A resume of a whole store of the job**
     pub record GoesOnWell (graphs values : List (List ℕ)) (ending : Ending) (epochs : List Epoch) : Type 0 where
-      pub start : Start
-      pub is_start : IsStartOf job edges values start
       pub cause : HasCauseOfJob ending
       pub unsettled : NeverSettles job edges → Comes (RoundLimit job.limit) ending
       pub settled : ¬ (NeverSettles job edges) → IsAnswered ending ⊎ (is_interrupted ending ≡ true)
       pub gone : HasGone job call.before.seat call.after.seat ending epochs
-      pub are : AreJobEpochs job edges start ending epochs
+      -- from the start that the store has, which is only one
+      pub are : (start : Start) → IsStartOf job edges values start → AreJobEpochs job edges start ending epochs
       pub stands : AreSettled graphs values → StandsAfterResume ending
       -- no stop loses the round that was found
       pub kept : AreSettled graphs values → (round : ℕ) → IsKeptRound job edges values round

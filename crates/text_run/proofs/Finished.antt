@@ -55,9 +55,9 @@ use Rattle.run_model.specs.Epochs.{HasGone, AreJobEpochs, IsReportOf}
 use Rattle.run_model.specs.Standing.{IsStored, StandsAfter}
 use Rattle.run_model.specs.Stops.{LeavesStores}
 use Rattle.run_model.specs.Runs.{IsRun, MOST_BEATS}
-use Rattle.text_run.proofs.Going.{devices_on, store_then, store_run, some_rose_later}
+use Rattle.run_model.proofs.Going.{devices_on, store_then, store_run, some_rose_later}
 use Rattle.text_run.proofs.Causes.{of_some, unprepared, exact}
-use Rattle.text_run.proofs.Untouched.{prints_nothing}
+use Rattle.run_model.proofs.Untouched.{prints_nothing}
 use Rattle.text_run.proofs.Prepared.{beats, store_made, graphs_made}
 use Rattle.text_run.proofs.Made.{good_start, given_are, leave_made, made_store, has_edges, told_made}
 

@@ -14,6 +14,7 @@ use Rattle.storage_engine.specs.declared.fault.PrepareFault.TheVariants as prepa
 use Rattle.storage_engine.specs.Preparing.{HasPrepareCause, IsOfText, Prepares}
 use Rattle.storage_engine.specs.Steps.{OneRose}
 use Rattle.round_steps.specs.Going.{MetersGoOn}
+use Rattle.round_loop.specs.declared.run.Start.TheVariants.{Fresh}
 use Rattle.round_loop.specs.Keeping.{moment}
 use Rattle.store_rounds.specs.Making.{LeaveMade}
 use Rattle.store_rounds.proofs.Places.{stop_of_each}
@@ -28,7 +29,7 @@ use Rattle.run_model.specs.Stops.{LeavesStores}
 use Rattle.run_model.specs.Runs.{IsRun, MOST_BEATS}
 use Rattle.text_run.specs.Refusals.{refusal}
 use Rattle.text_run.proofs.Causes.{of_some, unprepared, exact}
-use Rattle.text_run.proofs.Untouched.{prints_nothing, gone_none, none_of_job}
+use Rattle.run_model.proofs.Untouched.{prints_nothing, gone_none, none_of_job}
 use Rattle.text_run.proofs.Prepared.{beats, store_made, ready_made}
 
 -- a call in which a store was begun, and no round
@@ -130,7 +131,7 @@ module _ {D M : Type 0} (state : D → DiskState) (faults : M → ℕ) (job : Jo
         all_read = λ answered. absurd (not_answered (text_limit job.chunk) why answered);
         epochs = [];
         gone = gone_none job (refusal (text_limit job.chunk) why) (not_complete (text_limit job.chunk) why) seat ready.between;
-        are = λ told told_is devices tells. none_of_job job (refusal (text_limit job.chunk) why) (not_complete (text_limit job.chunk) why) (edges job told);
+        are = λ told told_is devices tells. none_of_job job (refusal (text_limit job.chunk) why) (not_complete (text_limit job.chunk) why) (edges job told) Fresh;
         back = back;
         stands = stands_of state faults job call (text_limit job.chunk) why prepares.shut;
         stops = stops;

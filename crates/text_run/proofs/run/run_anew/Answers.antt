@@ -6,7 +6,8 @@ use Rattle.round_steps.proofs.Kept.{meters_then}
 use Rattle.round_loop.specs.Keeping.{moment}
 use Rattle.run_model.specs.Calls.{Call}
 use Rattle.text_run.specs.Refusals.{refusal}
-use Rattle.text_run.proofs.Going.{meters_after, ready_with}
+use Rattle.run_model.proofs.Going.{meters_after}
+use Rattle.text_run.proofs.Prepared.{ready_with}
 use Rattle.text_run.proofs.Held.{no_room}
 use Rattle.text_run.proofs.Refused.{refused_as}
 use Rattle.text_run.proofs.Made.{is_store}

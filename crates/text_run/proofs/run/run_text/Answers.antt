@@ -1,6 +1,6 @@
 -- All graph devices are open, one of them is not, or a read failed.
 use Rattle.std.proofs.Common.{◌<◌, length, slice_set, arith}
-use Rattle.text_run.proofs.Going.{meters_after, meter_rose}
+use Rattle.run_model.proofs.Going.{meters_after, meter_rose}
 use Rattle.text_run.proofs.Held.{held, unread}
 use Rattle.text_run.proofs.run.run_text.Goals as goal
 

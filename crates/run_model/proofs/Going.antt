@@ -1,5 +1,5 @@
 -- Devices and meters after some calls, and after some more.
-use Rattle.std.proofs.Common.{◌≡◌, ◌∙◌, inl, inr, ℕ, ◌<◌, ◌≤◌, List, [], ◌∷◌, length, get_or, slice_set, refl, sym, subst, arith, length-set}
+use Rattle.std.proofs.Common.{◌≡◌, ◌∙◌, ◌⊎◌, inl, inr, ℕ, ◌+◌, ◌<◌, ◌≤◌, Some, List, [], ◌∷◌, length, get_or, slice_set, refl, sym, subst, arith, length-set}
 use Rattle.std.specs.Prelude.{Vec}
 use Rattle.std.specs.Global.{Global}
 use Rattle.std.specs.List.{All}
@@ -10,13 +10,12 @@ use Rattle.ports.specs.Disk.{DiskState}
 use Rattle.ports.specs.Faults.{Rose}
 use Rattle.ports.proofs.Told.{told_on}
 use Rattle.update_lanes.specs.Lanes.{OneRose}
-use Rattle.chunk_cursor.specs.declared.view.View.{View}
 use Rattle.storage_engine.specs.Steps.{Any, IsLater}
 use Rattle.store_reader.specs.declared.store.Store.{Store}
 use Rattle.round_steps.specs.Going.{AreDevices, AreRows, MetersGoOn, MeterRose, RowRose, SomeRose}
 use Rattle.round_steps.proofs.Kept.{meter_rose_later}
-use Rattle.round_loop.specs.Keeping.{AreLater, AreLaterRows, Keeps, moment}
-use Rattle.run_model.specs.Calls.{IsReady, StoreGoesOn}
+use Rattle.round_loop.specs.Keeping.{AreLater, AreLaterRows, Keeps}
+use Rattle.run_model.specs.Calls.{StoreGoesOn}
 
 module _ {M : Type 0} (faults : M → ℕ) (meters : List M) where
   pub meters_same : MetersGoOn faults meters meters
@@ -136,14 +135,3 @@ module _ {D M : Type 0} (state : D → DiskState) where
   some_rose_later faults old mid new xs ys zs first meters (inr (inl values)) = inr (inl (one_rose_later state old.values.items mid.values.items new.values.items first.values values))
   some_rose_later faults old mid new xs ys zs first meters (inr (inr (inl rows))) = inr (inr (inl (row_rose_later state old.lanes.items mid.lanes.items new.lanes.items first.lanes rows)))
   some_rose_later faults old mid new xs ys zs first meters (inr (inr (inr spills))) = inr (inr (inr (one_rose_later state old.spills.items mid.spills.items new.spills.items first.spills spills)))
-
-  -- with other meters, as many
-  pub ready_with : (engines : ℕ) (store : Store D M) (meters meters' : List M) (seat : View) (beat : ℕ) → length meters' ≡ length meters → IsReady state engines (moment store meters seat beat) → IsReady state engines (moment store meters' seat beat)
-  ready_with engines store meters meters' seat beat same ready = record {
-    graphs = ready.graphs;
-    values = ready.values;
-    lanes = ready.lanes;
-    spills = ready.spills;
-    meters = same ∙ ready.meters;
-    between = ready.between;
-  }
