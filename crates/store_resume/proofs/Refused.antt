@@ -43,6 +43,16 @@ not_complete (recover.Damaged part engine place) complete = complete
 not_complete recover.DiskFault complete = complete
 not_complete recover.Memory complete = complete
 
+-- a cause, by a count that is one of several
+pub cause_among : (one several : Type 0) (IsFound : damage.Fault → Type 0) (why : RecoverFault) → (one → several) → HasRecoverCause one IsFound why → HasRecoverCause several IsFound why
+cause_among one several IsFound recover.NotPrepared among cause = cause
+cause_among one several IsFound (recover.EnginesDiffer held asked) among cause = cause
+cause_among one several IsFound (recover.Damaged Graph engine place) among cause = cause
+cause_among one several IsFound (recover.Damaged Values engine place) among cause = cause
+cause_among one several IsFound (recover.Damaged Lane engine place) among cause = cause
+cause_among one several IsFound recover.DiskFault among cause = among cause
+cause_among one several IsFound recover.Memory among cause = cause
+
 module _ {D M : Type 0} (state : D → DiskState) (lawful : (d : D) → IsDisk (state d)) (faults : M → ℕ) (call : Call D M) (engines : ℕ) (ready : IsReady state engines call.before) (on : MetersGoOn faults call.before.meters call.after.meters)
     (unread : call.text_after ≡ call.text) (unprinted : call.out_after ≡ call.out) (same_store : call.after.store ≡ call.before.store) (same_seat : call.after.seat ≡ call.before.seat) (same_beat : call.after.beat ≡ call.before.beat) where
   at_end : (P : Store D M → ℕ → Type 0) → P call.before.store call.before.beat → P call.after.store call.after.beat

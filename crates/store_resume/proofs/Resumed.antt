@@ -21,6 +21,7 @@ use Rattle.store_model.specs.Kept.{device, IsUnprepared, IsWholeStore, StoreOf, 
 use Rattle.store_model.specs.Slots.{slot_of}
 use Rattle.store_reader.specs.declared.store.Part.{Part}
 use Rattle.store_checks.specs.Causes.{Tell}
+use Rattle.store_checks.specs.declared.fault.RecoverFault.TheVariants as recover
 use Rattle.restart.specs.declared.recovering.Recovered.{Recovered}
 use Rattle.restart.specs.Recovering.{job_in, index_in, IsRecovered}
 use Rattle.restart.specs.Resuming.{changed_of_all, Resumes}
@@ -36,7 +37,7 @@ use Rattle.round_loop.specs.declared.fault.RoundFault.{RoundFault}
 use Rattle.round_loop.specs.declared.fault.RoundFault.TheVariants as fault
 use Rattle.round_loop.specs.Starts.{split_for, first_made, epochs_to}
 use Rattle.round_loop.specs.Kept.{StandsAfter}
-use Rattle.round_loop.specs.Keeping.{IsTold, moment}
+use Rattle.round_loop.specs.Keeping.{IsTold, Moment, moment}
 use Rattle.round_loop.specs.Run.{RunsWell, HasRun}
 use Rattle.job_run.specs.declared.finish.Finish.{Finish}
 use Rattle.job_run.specs.declared.finish.Finish.TheVariants as finish
@@ -64,6 +65,8 @@ use Rattle.run_model.specs.Runs.{MOST_BEATS}
 use Rattle.run_model.specs.Resumes.{told_as, IsStartOf, OfBytes, AreSettled, HasResumeCause, HasPrintedNothing, HasRefused, HasCauseOfJob, StandsAfterResume, GoesOnWell, IsResume}
 use Rattle.run_model.proofs.Going.{devices_on, store_same, store_run, some_rose_later}
 use Rattle.run_model.proofs.Untouched.{prints_none}
+use Rattle.store_resume.specs.Going.{GoesOn}
+use Rattle.store_resume.proofs.Refused.{refused_resume}
 use Rattle.store_resume.proofs.Starts.{opened_found, job_found, places_found, start_found, one_start, behind_kept, stood_from}
 
 same_report : (a b : Report) → Answered a ≡ Answered b → a ≡ b
@@ -344,7 +347,7 @@ module _ {D M : Type 0} (state : D → DiskState) (lawful : (d : D) → IsDisk (
         (are_images state call.before.store.graphs.items graphs tell_graphs.many (told_images state lawful call.before.store.graphs.items graphs tell_graphs))
         (are_images state call.before.store.values.items values tell_values.many (told_images state lawful call.before.store.values.items values tell_values))
 
-    pub finished_resume : (ended : Finish) → RunsTo (rounds_of ended) → HasPrints state (split_for job) call.after.store.values.items (shows_side job.program) ended call.out call.out_after
+    finished_resume : (ended : Finish) → RunsTo (rounds_of ended) → HasPrints state (split_for job) call.after.store.values.items (shows_side job.program) ended call.out call.out_after
         → HasFinishCause faults meters call.after.meters call.write_faults call.write_faults_after ended → IsResume state faults call engines (ending_of job.limit ended)
     finished_resume ended runs prints caused = record {
       cause = resume_cause ended runs caused;
@@ -368,3 +371,17 @@ module _ {D M : Type 0} (state : D → DiskState) (lawful : (d : D) → IsDisk (
           → AtEachStop state call (λ b stopped_graphs stopped. StoreOf j edges stopped_graphs stopped))
           (job_found given edges values found resumes) (store_stops ended runs prints edges graphs values tell_graphs tell_values others) storable told resumes stores;
     }
+
+    -- **The store was recovered.**
+    resumed : (ending : Ending) → GoesOn state faults job start (index_in found) (record call { before = moment call.before.store meters call.before.seat call.before.beat }) ending → IsResume state faults call engines ending
+    resumed ending (inl none) =
+        let on_still = subst (MetersGoOn faults call.before.meters) (sym (ap (λ (m : Moment D M). m.meters) none.unchanged)) on in
+        subst (IsResume state faults call engines) (sym none.memory)
+        (refused_resume state lawful faults call engines ready on_still unread none.unprinted (ap (λ (m : Moment D M). m.store) none.unchanged) (ap (λ (m : Moment D M). m.seat) none.unchanged) (ap (λ (m : Moment D M). m.beat) none.unchanged)
+        recover.Memory tt (λ given edges graphs values storable stores tell_graphs tell_values. tt))
+    resumed ending (inr went) = subst (IsResume state faults call engines) (sym went.1.told) (finished_resume went.0 went.1.rounds went.1.printed went.1.cause)
+
+    -- the same, of what it is seen to be
+    pub resumed_as : (seen : Recovered) → found ≡ seen → (ending : Ending) → GoesOn state faults (job_in seen) (start_of seen) (index_in seen) (record call { before = moment call.before.store meters call.before.seat call.before.beat }) ending → IsResume state faults call engines ending
+    resumed_as seen is ending goes_on = resumed ending
+        (subst (λ (f : Recovered). GoesOn state faults (job_in f) (start_of f) (index_in f) (record call { before = moment call.before.store meters call.before.seat call.before.beat }) ending) (sym is) goes_on)

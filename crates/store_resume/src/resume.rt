@@ -1,10 +1,16 @@
 // One resume, from the heads of the store to the printed answer.
-ghost use Rattle.std.specs.Prelude.{◌≡◌, ℕ, ◌+◌, ◌^◌, ◌≤◌, Option, List};
+ghost use Rattle.std.specs.Prelude.{◌≡◌, ℕ, ◌+◌, ◌^◌, ◌≤◌, Option, List, vec_len};
 ghost use Rattle.graph_model.specs.Jobs.{IsWellFormedJob};
-ghost use Rattle.partitioner.specs.Splits.{IsSplit, IsSplitOf};
+ghost use Rattle.partitioner.specs.Splits.{IsSplit};
+ghost use Rattle.chunk_file.specs.declared.index.TheConstants.{MOST_PLACES};
+ghost use Rattle.chunk_file.specs.Places.{total_of};
+ghost use Rattle.epoch_seats.specs.Between.{IsBetweenEpochs};
+ghost use Rattle.round_steps.specs.Going.{IsStore};
+ghost use Rattle.round_loop.specs.Starts.{split_for};
 ghost use Rattle.round_loop.specs.Keeping.{moment};
 ghost use Rattle.run_model.specs.Calls.{IsReady};
 ghost use Rattle.run_model.specs.Resumes.{IsResume};
+ghost use Rattle.store_resume.specs.Going.{GoesOn};
 ghost use Rattle.store_resume.specs.Refusals;
 
 use answer_lines::AnswerRoom;
@@ -100,7 +106,28 @@ fn go_on<R: Threads + Sync, K: Sink, D: Disk, G: Gate + Sync>(
     seat: &mut CursorSeat,
     gate: &G,
     beat: &mut Beat,
-) -> Ending {
+) -> Ending
+    requires job { IsWellFormedJob job.now }
+    requires places { total_of index.now ≤ MOST_PLACES }
+    requires store { IsStore D.state (split_for job.now) beat.old store.old }
+    requires meters { vec_len meters.old ≡ job.now.engines + 1 }
+    requires table { seat.old.table ≡ table.now }
+    requires between { IsBetweenEpochs seat.old.view }
+    requires beat { beat.old ≤ 2 ^ 63 + 9 }
+    ensures table { seat.new.table ≡ seat.old.table }
+    ensures goes_on { (text : Option (List ℕ)) (read_faults : ℕ) → GoesOn D.state D.M.faults job.now start index.now (record {
+      text = text;
+      text_after = text;
+      read_faults = read_faults;
+      read_faults_after = read_faults;
+      out = K.written out.old;
+      out_after = K.written out.new;
+      write_faults = K.faults out.old;
+      write_faults_after = K.faults out.new;
+      before = moment store.old meters.old.items seat.old.view beat.old;
+      after = moment store.new meters.new.items seat.new.view beat.new;
+    }) result }
+{
     let split = split_of(job);
     let mut room = match AnswerRoom::new(alloc, &split) {
         Ok(room) => room,
@@ -137,7 +164,7 @@ fn refusal(fault: RecoverFault) -> Ending
 fn split_of(job: &Job) -> Split
     requires { IsWellFormedJob job.now }
     ensures split { IsSplit result }
-    ensures of_job { IsSplitOf job.now result }
+    ensures same { result ≡ split_for job.now }
 {
     match Split::of(job.vertices, job.engines, job.most) {
         Some(split) => split,
