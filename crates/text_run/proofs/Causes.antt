@@ -1,5 +1,5 @@
 -- What the text and the devices call for, by the cause of the ending.
-use Rattle.std.proofs.Common.{◌≡◌, ◌∙◌, ◌⊎◌, inl, inr, ℕ, ◌<◌, ◌≤◌, List, length, true, Option, None, Some, IfSome, get_or, refl, ap, sym, subst, arith}
+use Rattle.std.proofs.Common.{◌≡◌, inl, inr, ℕ, ◌<◌, List, length, true, Option, None, Some, IfSome, refl, ap, subst, arith}
 use Rattle.std.specs.List.{All}
 use Rattle.std.proofs.lemmas.List.Elements.{All-get_or}
 use Rattle.ports.specs.Disk.{DiskState}
@@ -8,12 +8,12 @@ use Rattle.graph_model.specs.declared.edge.TextFault.TheVariants as fault
 use Rattle.graph_model.specs.declared.job.Job.{Job}
 use Rattle.graph_model.specs.Answer.{edges, refusal_of, IsAccepted, NeverSettles}
 use Rattle.store_model.specs.Heads.{IsOpenGraph, IsShutGraph}
-use Rattle.store_model.specs.Kept.{device, IsPrepared, IsUnprepared}
+use Rattle.store_model.specs.Kept.{IsPrepared, IsUnprepared}
 use Rattle.store_reader.specs.Devices.{IsOpenDevice, SomeShut}
 use Rattle.apply_round.proofs.Desks.{any_of}
 use Rattle.endings.specs.declared.ending.Ending.{Ending}
 use Rattle.endings.specs.declared.ending.Ending.TheVariants.{Answered, Dropped, Usage, BadLine, DiskFault, RoundLimit, Memory, ReadFault, WriteFault, NotPrepared, EnginesDiffer, Damaged, TooLong, StoreHolds}
-use Rattle.run_model.specs.Calls.{Call, OfText, OfTold, Tells}
+use Rattle.run_model.specs.Calls.{Call, OfText, OfTold}
 use Rattle.run_model.specs.Causes.{is_interrupted, IsAnswered, HasCause, IsExact}
 
 -- what holds of a text that is told
@@ -41,8 +41,7 @@ module _ {D M : Type 0} (state : D → DiskState) (faults : M → ℕ) (job : Jo
   -- some graph device that is not open is one, where the devices tell
   pub unprepared : SomeShut state call.before.store.graphs.items → AreUnprepared
   unprepared shut graphs tells =
-      let d : D = any_of call.before.store.graphs.items shut.0 shut.1 in
-      (
+      let d : D = any_of call.before.store.graphs.items shut.0 shut.1 in (
         shut.0,
         omega (arith, shut.1, tells.graphs.many),
         subst (λ (x : Option (List ℕ)). IfSome x IsShutGraph) (tells.graphs.told shut.0 d shut.1) (shut.2 d),

@@ -1,5 +1,5 @@
 -- A store was made, and the job's rounds were run.
-use Rattle.std.proofs.Common.{◌≡◌, ◌∙◌, ◌⊎◌, inl, inr, ℕ, ◌+◌, ◌-◌, ◌<◌, ◌≤◌, List, [], length, get_or, Option, Some, IfSome, Result, Ok, Err, refl, sym, ap, subst, arith}
+use Rattle.std.proofs.Common.{◌≡◌, ◌∙◌, ◌⊎◌, inl, inr, ℕ, ◌+◌, ◌-◌, ◌<◌, ◌≤◌, List, [], length, get_or, Option, Some, Result, Ok, Err, refl, sym, subst, arith}
 use Rattle.std.specs.Prelude.{Vec}
 use Rattle.std.specs.Global.{Global}
 use Rattle.std.proofs.lemmas.Bool.{cases_lt}
@@ -55,9 +55,9 @@ use Rattle.run_model.specs.Epochs.{HasGone, AreJobEpochs, IsReportOf}
 use Rattle.run_model.specs.Standing.{IsStored, StandsAfter}
 use Rattle.run_model.specs.Stops.{LeavesStores}
 use Rattle.run_model.specs.Runs.{IsRun, MOST_BEATS}
-use Rattle.text_run.proofs.Going.{devices_on, store_then, store_run, some_rose_later}
+use Rattle.run_model.proofs.Going.{devices_on, store_then, store_run, some_rose_later}
 use Rattle.text_run.proofs.Causes.{of_some, unprepared, exact}
-use Rattle.text_run.proofs.Untouched.{prints_nothing}
+use Rattle.run_model.proofs.Untouched.{prints_nothing}
 use Rattle.text_run.proofs.Prepared.{beats, store_made, graphs_made}
 use Rattle.text_run.proofs.Made.{good_start, given_are, leave_made, made_store, has_edges, told_made}
 
@@ -139,10 +139,10 @@ module _ {D M : Type 0} (state : D → DiskState) (lawful : (d : D) → IsDisk (
       at_stop shut_device = elim (cases_lt now b) [
         | inl after ↦ inr ((accepted told is).0, (accepted told is).1, later_whole after)
         | inr early ↦ elim (running_at_stop state job told call.before.beat now b call.before.store.graphs.items new.graphs.items call.before.store.values.items new.values.items graphs values ready.graphs.all ready.values.all leave stop_made
-        lawful call.after.beat call.after.store.values.items (whole_made told is) (runs_well told is devices tells).any_stop within stop_values shut_device early) [
-          | inl unprepared_now ↦ inl unprepared_now
-          | inr whole ↦ inr ((accepted told is).0, (accepted told is).1, whole.1)
-        ]
+            lawful call.after.beat call.after.store.values.items (whole_made told is) (runs_well told is devices tells).any_stop within stop_values shut_device early) [
+              | inl unprepared_now ↦ inl unprepared_now
+              | inr whole ↦ inr ((accepted told is).0, (accepted told is).1, whole.1)
+            ]
       ]
 
       everywhere : (round : ℕ) → 1 ≤ round → b ≡ call.before.beat + 2 + round → IsEverywhere job (edges job told) values (round - 1)
@@ -150,7 +150,7 @@ module _ {D M : Type 0} (state : D → DiskState) (lawful : (d : D) → IsDisk (
           (λ e d below c image. blank_is job (edges job told) e c ((whole_made told is).blank e d below c image))
           (λ e d below. (leave.of_values e d below).later)
           (λ e d below before. absurd (omega (arith, before)))
-          (runs_well told is devices tells).since (omega arith) some (omega (arith, within, at, prepares.second, runs.beats.1)) (omega (arith, at, prepares.second)) within stop_values
+          (λ e d b' t c below after within' before stop. (runs_well told is devices tells).since e d below b' t c after within' before stop) (omega arith) some (omega (arith, within, at, prepares.second, runs.beats.1)) (omega (arith, at, prepares.second)) within stop_values
 
     stops : LeavesStores state job call
     stops = record {
@@ -159,8 +159,7 @@ module _ {D M : Type 0} (state : D → DiskState) (lawful : (d : D) → IsDisk (
           (stop_of_each state b call.before.store.values.items call.after.store.values.items values stop_values) shut_device;
       in_rounds = λ told is devices tells round some b graphs values within stop_graphs stop_values at.
           let each_graphs = stop_of_each state b call.before.store.graphs.items call.after.store.graphs.items graphs stop_graphs in
-          let each_values = stop_of_each state b call.before.store.values.items call.after.store.values.items values stop_values in
-          (
+          let each_values = stop_of_each state b call.before.store.values.items call.after.store.values.items values stop_values in (
             whole_open job (edges job told) graphs values (later_whole told is devices tells b graphs values within each_graphs each_values (omega (arith, at, prepares.second))),
             everywhere told is devices tells b graphs values within each_graphs each_values round some at,
           );
@@ -275,7 +274,7 @@ module _ {D M : Type 0} (state : D → DiskState) (lawful : (d : D) → IsDisk (
   are_of (finish.Stopped fault.Memory) runs told is graphs tells = of_job (finish.Stopped fault.Memory) runs (ending_of job.limit (finish.Stopped fault.Memory)) (λ report answered. cc) (λ written. cc) (λ limit limited. cc) told is graphs tells
 
   -- **A run whose store was made**
-  pub finished_run : (ended : Finish) → RunsTo (rounds_of ended) → Prints state (split_for job) call.after.store.values.items (shows_side job.program) ended call.out call.out_after
+  finished_run : (ended : Finish) → RunsTo (rounds_of ended) → Prints state (split_for job) call.after.store.values.items (shows_side job.program) ended call.out call.out_after
       → HasFinishCause faults meters call.after.meters call.write_faults call.write_faults_after ended → IsRun state faults job call (ending_of job.limit ended)
   finished_run ended runs prints caused =
       let cause = cause_of ended runs caused in
@@ -291,3 +290,7 @@ module _ {D M : Type 0} (state : D → DiskState) (lawful : (d : D) → IsDisk (
         stands = stands_of ended runs;
         stops = stops (rounds_of ended) runs;
       }
+
+  pub finished_as : (ended : Finish) → RunsTo (rounds_of ended) → Prints state (split_for job) call.after.store.values.items (shows_side job.program) ended call.out call.out_after
+      → HasFinishCause faults meters call.after.meters call.write_faults call.write_faults_after ended → (ending : Ending) → ending ≡ ending_of job.limit ended → IsRun state faults job call ending
+  finished_as ended runs prints caused ending is = subst (λ (e : Ending). IsRun state faults job call e) (sym is) (finished_run ended runs prints caused)

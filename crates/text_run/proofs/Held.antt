@@ -1,14 +1,14 @@
 -- Runs that end before the store is touched.
-use Rattle.std.proofs.Common.{◌≡◌, ◌∙◌, ◌⊎◌, inl, inr, ℕ, ◌+◌, ◌<◌, ◌≤◌, List, [], length, Option, Some, refl, sym, subst, arith}
+use Rattle.std.proofs.Common.{◌∙◌, inl, inr, ℕ, List, [], Option, refl, arith}
 use Rattle.std.specs.List.{All}
 use Rattle.ports.specs.Disk.{DiskState, IsDisk}
-use Rattle.ports.specs.Faults.{Rose}
 use Rattle.graph_model.specs.declared.job.Job.{Job}
 use Rattle.graph_model.specs.Answer.{edges}
 use Rattle.store_reader.specs.declared.store.Store.{Store}
 use Rattle.store_reader.specs.Devices.{IsOpenDevice}
 use Rattle.chunk_cursor.specs.declared.view.View.{View}
 use Rattle.round_steps.specs.Going.{MetersGoOn, MeterRose}
+use Rattle.round_loop.specs.declared.run.Start.TheVariants.{Fresh}
 use Rattle.round_loop.specs.Keeping.{moment}
 use Rattle.endings.specs.declared.ending.Ending.{Ending}
 use Rattle.endings.specs.declared.ending.Ending.TheVariants.{DiskFault, Memory, StoreHolds}
@@ -18,9 +18,10 @@ use Rattle.run_model.specs.Printing.{HasPrinted}
 use Rattle.run_model.specs.Epochs.{IsComplete}
 use Rattle.run_model.specs.Standing.{StandsAfter}
 use Rattle.run_model.specs.Runs.{IsRun, MOST_BEATS}
-use Rattle.text_run.proofs.Going.{store_same}
+use Rattle.run_model.proofs.Going.{store_same}
 use Rattle.text_run.proofs.Causes.{prepared, exact_held, exact_interrupted}
-use Rattle.text_run.proofs.Untouched.{prints_nothing, gone_none, none_of_job, leaves_untouched}
+use Rattle.run_model.proofs.Untouched.{prints_nothing, gone_none, none_of_job}
+use Rattle.text_run.proofs.Untouched.{leaves_untouched}
 
 -- a call that has touched nothing but the meters
 abbrev pub untouched : {D M : Type 0} (text out : Option (List ℕ)) (reads writes : ℕ) (store : Store D M) (meters meters' : List M) (seat : View) (beat : ℕ) → Call D M
@@ -67,7 +68,7 @@ module _ {D M : Type 0} (state : D → DiskState) (lawful : (d : D) → IsDisk (
     all_read = λ answered. absurd (not_answered answered);
     epochs = [];
     gone = gone_none job ending not_complete seat ready.between;
-    are = λ text text_is graphs tells. none_of_job job ending not_complete (edges job text);
+    are = λ text text_is graphs tells. none_of_job job ending not_complete (edges job text) Fresh;
     back = back;
     stands = stands;
     stops = leaves_untouched state lawful job call ready.graphs.all refl refl;

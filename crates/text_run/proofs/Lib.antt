@@ -1,4 +1,3 @@
-pub mod Going
 pub mod Causes
 pub mod Untouched
 pub mod Held

@@ -1,10 +1,7 @@
 -- A store that was made, as the rounds find it.
-use Rattle.std.proofs.Common.{◌≡◌, ◌∙◌, ◌⊎◌, inl, inr, ℕ, ◌+◌, ◌<◌, ◌≤◌, List, [], length, get_or, Option, Some, IfSome, Ok, refl, sym, ap, subst, arith}
-use Rattle.std.specs.Prelude.{Vec}
-use Rattle.std.specs.Global.{Global}
-use Rattle.std.specs.List.{All}
+use Rattle.std.proofs.Common.{◌≡◌, ◌∙◌, ℕ, ◌<◌, List, [], length, get_or, Option, Some, IfSome, Ok, refl, ap, subst, arith}
 use Rattle.std.proofs.lemmas.List.Elements.{All-weaker}
-use Rattle.ports.specs.Disk.{DiskState, InEveryImage}
+use Rattle.ports.specs.Disk.{DiskState}
 use Rattle.graph_model.specs.declared.edge.Edge.{Edge}
 use Rattle.graph_model.specs.declared.job.Job.{Job}
 use Rattle.graph_model.specs.Jobs.{IsWellFormedJob}
@@ -23,7 +20,7 @@ use Rattle.round_loop.specs.declared.run.Start.TheVariants.{Fresh}
 use Rattle.round_loop.specs.Starts.{split_for}
 use Rattle.round_loop.specs.Kept.{IsGoodStart}
 use Rattle.round_loop.specs.Keeping.{IsTold, moment}
-use Rattle.store_edges.proofs.Standing.{within, lens, stands_at, told as told_by_engine}
+use Rattle.store_edges.proofs.Standing.{has_edges as edges_of_store}
 use Rattle.store_rounds.specs.Making.{LeaveMade, IsMadeStore}
 use Rattle.run_model.specs.Calls.{IsReady, Tells}
 use Rattle.text_run.proofs.Prepared.{beats, store_made, graphs_made, values_made, lanes_made, spills_made}
@@ -95,15 +92,7 @@ module _ {D M : Type 0} (state : D → DiskState) (job : Job) (well : IsWellForm
         exactly (state (get_or new.graphs.items e d)).bytes (graph job prepares.made.0 e) after.0 (prepares.made.1.devices e d below).read after.1
 
     pub has_edges : HasEdges state job (split_for job) index new.graphs.items prepares.made.0
-    has_edges = record {
-      within = within job prepares.made.0 storable (split_for job) (of_job job) index prepares.made.1.places;
-      lens = lens job prepares.made.0 storable (split_for job) (of_job job) index prepares.made.1.places;
-      stand = λ e p t engine partition inside. (
-        graph job prepares.made.0 e,
-        told_by_engine state job prepares.made.0 new.graphs.items prepares.many.0 graph_told e engine,
-        stands_at job prepares.made.0 storable (split_for job) (of_job job) index prepares.made.1.places e p t engine partition inside,
-      );
-    }
+    has_edges = edges_of_store state job prepares.made.0 new.graphs.items prepares.many.0 graph_told storable (split_for job) (of_job job) index prepares.made.1.places
 
     pub told_made : IsTold state new
     told_made =

@@ -1,5 +1,5 @@
 -- All that belongs to a store, after a store was made or refused.
-use Rattle.std.proofs.Common.{◌≡◌, ◌∙◌, ◌⊎◌, inl, inr, ℕ, ◌+◌, ◌<◌, ◌≤◌, List, length, Option, Result, sym, subst, arith}
+use Rattle.std.proofs.Common.{◌≡◌, ◌∙◌, inl, inr, ℕ, ◌+◌, ◌≤◌, List, length, Option, Result, sym, subst, arith}
 use Rattle.std.specs.Prelude.{Vec}
 use Rattle.std.specs.Global.{Global}
 use Rattle.ports.specs.Disk.{DiskState}
@@ -12,7 +12,18 @@ use Rattle.storage_engine.specs.Preparing.{Prepares}
 use Rattle.round_steps.specs.Going.{AreDevices, AreRows}
 use Rattle.round_loop.specs.Keeping.{AreLater, AreLaterRows, moment}
 use Rattle.run_model.specs.Calls.{IsReady, StoreGoesOn}
-use Rattle.text_run.proofs.Going.{later_same, later_made, rows_same, devices_on, rows_on, devices_of}
+use Rattle.run_model.proofs.Going.{later_same, later_made, rows_same, devices_on, rows_on, devices_of}
+
+-- a call may be made with other meters, as many
+pub ready_with : {D M : Type 0} (state : D → DiskState) (engines : ℕ) (store : Store D M) (meters meters' : List M) (seat : View) (beat : ℕ) → length meters' ≡ length meters → IsReady state engines (moment store meters seat beat) → IsReady state engines (moment store meters' seat beat)
+ready_with state engines store meters meters' seat beat same ready = record {
+  graphs = ready.graphs;
+  values = ready.values;
+  lanes = ready.lanes;
+  spills = ready.spills;
+  meters = same ∙ ready.meters;
+  between = ready.between;
+}
 
 module _ {D M : Type 0} (state : D → DiskState) (job : Job) (text left : Option (List ℕ)) (number now : ℕ) (read : Type 0) (old new : Store D M) (result : Result (List (List Place)) PrepareFault)
     (prepares : Prepares state job text left number now read old.graphs.items new.graphs.items old.values.items new.values.items result) (lanes : new.lanes ≡ old.lanes) (spills : new.spills ≡ old.spills)

@@ -1,15 +1,12 @@
 -- A store was not made.
-use Rattle.std.proofs.Common.{◌≡◌, ◌∙◌, ◌⊎◌, inl, inr, ℕ, ◌+◌, ◌<◌, ◌≤◌, List, [], length, Option, Some, IfSome, Err, refl, sym, subst, arith}
-use Rattle.ports.specs.Disk.{DiskState, IsDisk, InEveryImage}
+use Rattle.std.proofs.Common.{◌≡◌, ◌∙◌, ◌⊎◌, inl, inr, ℕ, List, [], Option, Some, Err, refl, sym, subst, arith}
+use Rattle.ports.specs.Disk.{DiskState}
 use Rattle.ports.specs.Faults.{Rose}
 use Rattle.graph_model.specs.declared.edge.TextFault.TheVariants as fault
 use Rattle.graph_model.specs.declared.job.Job.{Job}
 use Rattle.graph_model.specs.EdgeText.{text_limit}
 use Rattle.graph_model.specs.Answer.{edges, refusal_of, IsAccepted}
 use Rattle.chunk_cursor.specs.declared.view.View.{View}
-use Rattle.chunk_file.specs.declared.index.Place.{Place}
-use Rattle.store_model.specs.Heads.{IsShutGraph}
-use Rattle.store_model.specs.Kept.{IsUnprepared, IsWholeStore}
 use Rattle.store_reader.specs.declared.store.Store.{Store}
 use Rattle.store_reader.specs.Devices.{SomeShut}
 use Rattle.storage_engine.specs.declared.fault.PrepareFault.{PrepareFault}
@@ -17,6 +14,7 @@ use Rattle.storage_engine.specs.declared.fault.PrepareFault.TheVariants as prepa
 use Rattle.storage_engine.specs.Preparing.{HasPrepareCause, IsOfText, Prepares}
 use Rattle.storage_engine.specs.Steps.{OneRose}
 use Rattle.round_steps.specs.Going.{MetersGoOn}
+use Rattle.round_loop.specs.declared.run.Start.TheVariants.{Fresh}
 use Rattle.round_loop.specs.Keeping.{moment}
 use Rattle.store_rounds.specs.Making.{LeaveMade}
 use Rattle.store_rounds.proofs.Places.{stop_of_each}
@@ -31,7 +29,7 @@ use Rattle.run_model.specs.Stops.{LeavesStores}
 use Rattle.run_model.specs.Runs.{IsRun, MOST_BEATS}
 use Rattle.text_run.specs.Refusals.{refusal}
 use Rattle.text_run.proofs.Causes.{of_some, unprepared, exact}
-use Rattle.text_run.proofs.Untouched.{prints_nothing, gone_none, none_of_job}
+use Rattle.run_model.proofs.Untouched.{prints_nothing, gone_none, none_of_job}
 use Rattle.text_run.proofs.Prepared.{beats, store_made, ready_made}
 
 -- a call in which a store was begun, and no round
@@ -123,7 +121,7 @@ module _ {D M : Type 0} (state : D → DiskState) (faults : M → ℕ) (job : Jo
       }
 
   -- **A run whose store was not made**
-  pub refused_run : IsRun state faults job call (refusal (text_limit job.chunk) why)
+  refused_run : IsRun state faults job call (refusal (text_limit job.chunk) why)
   refused_run =
       let cause = cause_of state faults job call why prepares.cause in
       record {
@@ -133,8 +131,11 @@ module _ {D M : Type 0} (state : D → DiskState) (faults : M → ℕ) (job : Jo
         all_read = λ answered. absurd (not_answered (text_limit job.chunk) why answered);
         epochs = [];
         gone = gone_none job (refusal (text_limit job.chunk) why) (not_complete (text_limit job.chunk) why) seat ready.between;
-        are = λ told told_is devices tells. none_of_job job (refusal (text_limit job.chunk) why) (not_complete (text_limit job.chunk) why) (edges job told);
+        are = λ told told_is devices tells. none_of_job job (refusal (text_limit job.chunk) why) (not_complete (text_limit job.chunk) why) (edges job told) Fresh;
         back = back;
         stands = stands_of state faults job call (text_limit job.chunk) why prepares.shut;
         stops = stops;
       }
+
+  pub refused_as : (ending : Ending) → ending ≡ refusal (text_limit job.chunk) why → IsRun state faults job call ending
+  refused_as ending is = subst (λ (e : Ending). IsRun state faults job call e) (sym is) refused_run
