@@ -1,3 +1,4 @@
 pub mod Meters
 pub mod Splits
 pub mod Runs
+mod Made

@@ -63,62 +63,35 @@ pub fn run_job<R: Threads + Sync, K: Sink, D: Disk, G: Gate + Sync>(
     ensures cause { HasFinishCause D.M.faults meters.old.items meters.new.items (K.faults out.old) (K.faults out.new) result }
 {
     match job.program {
-        Program::Bfs(root) => run_program(
-            rt,
-            alloc,
-            &Bfs { root },
-            job,
-            start,
-            index,
-            store,
-            table,
-            seat,
-            meters,
-            gate,
-            beat,
-            room,
-            out,
-        ),
+        Program::Bfs(root) => {
+            let program = Bfs { root };
+            run_program(
+                rt, alloc, &program, job, start, index, store, table, seat, meters, gate, beat,
+                room, out,
+            )
+        }
         Program::Labels => run_program(
             rt, alloc, &Labels, job, start, index, store, table, seat, meters, gate, beat, room,
             out,
         ),
-        Program::Sssp(root) => run_program(
-            rt,
-            alloc,
-            &Sssp { root },
-            job,
-            start,
-            index,
-            store,
-            table,
-            seat,
-            meters,
-            gate,
-            beat,
-            room,
-            out,
-        ),
+        Program::Sssp(root) => {
+            let program = Sssp { root };
+            run_program(
+                rt, alloc, &program, job, start, index, store, table, seat, meters, gate, beat,
+                room, out,
+            )
+        }
         Program::Degrees => run_program(
             rt, alloc, &Degrees, job, start, index, store, table, seat, meters, gate, beat, room,
             out,
         ),
-        Program::PageRank(rounds) => run_program(
-            rt,
-            alloc,
-            &PageRank { rounds },
-            job,
-            start,
-            index,
-            store,
-            table,
-            seat,
-            meters,
-            gate,
-            beat,
-            room,
-            out,
-        ),
+        Program::PageRank(rounds) => {
+            let program = PageRank { rounds };
+            run_program(
+                rt, alloc, &program, job, start, index, store, table, seat, meters, gate, beat,
+                room, out,
+            )
+        }
     }
 }
 
@@ -164,7 +137,7 @@ fn run_program<R: Threads + Sync, P: VertexProgram, K: Sink, D: Disk, G: Gate + 
 }
 
 /// The split of a job.
-fn split_of(job: &Job) -> Split
+pub(crate) fn split_of(job: &Job) -> Split
     requires { IsWellFormedJob job.now }
     ensures split { IsSplit result }
     ensures same { result ≡ split_for job.now }

@@ -12,7 +12,7 @@ use Rattle.round_loop.specs.Kept.{HasStood, Left, SlotLeft}
 use Rattle.store_rounds.specs.Images.{IsStopOfEach}
 use Rattle.store_rounds.specs.Going.{LeaveRounds, LeaveRoundsSince}
 use Rattle.store_rounds.proofs.SameRounds.{reached_in_store, held_in_store, known_round}
-use Rattle.store_rounds.proofs.SlotBytes.{closed_still, held_still}
+use Rattle.round_loop.proofs.SlotBytes.{closed_still, held_still}
 
 module _ (job : Job) (edges : List Edge) (e : ℕ) where
   -- of slots 0 and 1
@@ -80,5 +80,5 @@ all_before state job edges number first last b round early old new stopped well 
     let here : e < length early = omega (arith, below, many) in
     let d = any_of early e here in
     before_is job edges e number first b (state (get_or old e d)) (device stopped e) (at_start e d below)
-    (leave e d b (state (get_or early e d)).moment (device stopped e) below (omega (arith, beat)) within (later e d below) (stop.each e d here))
+    (leave e d below b (state (get_or early e d)).moment (device stopped e) (omega (arith, beat)) within (later e d below) (stop.each e d here))
     round well from some few beat (stood e d below)

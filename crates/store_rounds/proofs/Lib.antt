@@ -1,7 +1,6 @@
 pub mod Places
 pub mod Onward
 pub mod SameRounds
-pub mod SlotBytes
 pub mod Left
 pub mod Starting
 pub mod Answering

@@ -9,7 +9,7 @@ use Rattle.restart.specs.declared.recovering.Recovered.{Recovered}
 use Rattle.restart.specs.declared.recovering.Recovered.TheVariants as recovered
 use Rattle.round_loop.specs.declared.run.Start.{Start}
 use Rattle.round_loop.specs.declared.run.Start.TheVariants.{Fresh, At}
-use Rattle.round_loop.specs.Kept.{Left}
+use Rattle.round_loop.specs.Kept.{Left, LeftSince}
 
 -- at the round that was found, or at the beginning
 abbrev pub start_of : Recovered → Start
@@ -21,7 +21,7 @@ abbrev pub LeaveRounds : {D : Type 0} → (state : D → DiskState) → Job → 
 LeaveRounds {D} state job edges number first last old new = (e : ℕ) (d : D) → e < job.engines → LeavesByBeat (state (slice_index_or old e d)) (state (slice_index_or new e d))
     (λ b bytes. b ≤ last → Left (rules_of job.program) job edges number first e (state (slice_index_or old e d)) b bytes)
 
--- the same of a stop in a beat after that of this number, from whatever moment on it is counted
+-- the same in the beats of the run, where a stop is counted from before it
 abbrev pub LeaveRoundsSince : {D : Type 0} → (state : D → DiskState) → Job → List Edge → (number first last : ℕ) → (old new : List D) → Type 0
-LeaveRoundsSince {D} state job edges number first last old new = (e : ℕ) (d : D) (b t : ℕ) (c : List ℕ) → e < job.engines → number < b → b ≤ last
-    → t ≤ (state (slice_index_or old e d)).moment → (state (slice_index_or new e d)).stops b t c → Left (rules_of job.program) job edges number first e (state (slice_index_or old e d)) b c
+LeaveRoundsSince {D} state job edges number first last old new = (e : ℕ) (d : D) → e < job.engines
+    → LeftSince (rules_of job.program) job edges number first last e (state (slice_index_or old e d)) (state (slice_index_or new e d))
