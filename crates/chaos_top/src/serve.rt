@@ -9,9 +9,9 @@ use chunk_cursor::{CursorSeat, CursorTable};
 use endings::Ending;
 use job_words::{Command, WordFault, job_of};
 use ports::{Beat, Disk, Gate, Sink, Source};
-use restart::drop_store;
 use std::alloc::Global;
 use std::thread::Threads;
+use store_drop::give_up;
 use store_reader::Store;
 use store_resume::resume_store;
 use text_run::run_text;
@@ -61,16 +61,8 @@ pub(crate) fn serve<R: Threads + Sync, S: Source, K: Sink, D: Disk, G: Gate + Sy
         ) => resume_store(
             rt, alloc, engines, out, store, meters, table, seat, gate, beat,
         ),
-        Ok(Command::Discard { engines }) => give_up(store, &mut meters[engines as usize], beat),
+        Ok(Command::Discard { engines }) => give_up(engines, store, meters, beat),
         Ok(_) | Err(WordFault::Usage) => Ending::Usage,
         Err(WordFault::Memory) => Ending::Memory,
-    }
-}
-
-/// Gives the store up.
-fn give_up<D: Disk>(store: &mut Store<D>, meter: &mut D::M, beat: &mut Beat) -> Ending {
-    match drop_store(store, meter, beat) {
-        Ok(()) => Ending::Dropped,
-        Err(_) => Ending::DiskFault,
     }
 }

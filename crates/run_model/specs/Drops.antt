@@ -6,7 +6,7 @@ use Rattle.ports.specs.Stops.{AreImages}
 use Rattle.restart.specs.Dropping.{IsEmpty}
 use Rattle.store_model.specs.Kept.{IsUnprepared}
 use Rattle.endings.specs.declared.ending.Ending.{Ending}
-use Rattle.endings.specs.declared.ending.Ending.TheVariants.{Dropped, DiskFault}
+use Rattle.endings.specs.declared.ending.Ending.TheVariants.{Dropped, DiskFault, Memory}
 use Rattle.round_steps.specs.Going.{MetersGoOn}
 use Rattle.run_model.specs.Calls.{Call, IsReady, AnyRose}
 use Rattle.run_model.specs.Printing.{Prints}
@@ -20,9 +20,10 @@ module _ {D M : Type 0} (state : D → DiskState) (faults : M → ℕ) (call : C
     pub lanes : All (λ row. All (λ disk. IsEmpty (state disk)) row.items) call.after.store.lanes.items
     pub spills : All (λ disk. IsEmpty (state disk)) call.after.store.spills.items
 
-  -- the store is given up, or a count rose
+  -- the store is given up, or a count rose, or there was no memory for the words and nothing was done
   abbrev pub HasDropCause : Ending → Type 0
   HasDropCause Dropped = AllEmpty
+  HasDropCause Memory = call.after ≡ call.before
   HasDropCause DiskFault = AnyRose state faults call.before call.after
   HasDropCause _ = ⊥
 
