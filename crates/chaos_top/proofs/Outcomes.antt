@@ -1,12 +1,14 @@
 -- The outcome of a call, by the command that its words mean.
-use Rattle.std.proofs.Common.{◌≡◌, ◌⊎◌, ℕ, [], Option, Some, None, true, false, refl, sym, subst}
+use Rattle.std.proofs.Common.{◌≡◌, ◌∙◌, ap, Bool, ◌⊎◌, ℕ, [], Option, Some, None, true, false, refl, sym, subst}
 use Rattle.ports.specs.Disk.{DiskState}
 use Rattle.graph_model.specs.declared.job.Job.{Job}
+use Rattle.job_words.specs.Commands.{engines_of}
 use Rattle.job_words.specs.declared.command.Command.{Command}
 use Rattle.job_words.specs.declared.command.Command.TheVariants.{Run, Bench, Resume, Discard}
+use Rattle.round_loop.specs.Keeping.{Moment}
 use Rattle.endings.specs.declared.ending.Ending.{Ending}
 use Rattle.endings.specs.declared.ending.Ending.TheVariants.{Usage, Memory}
-use Rattle.run_model.specs.Calls.{Call}
+use Rattle.run_model.specs.Calls.{Call, IsReady}
 use Rattle.run_model.specs.Runs.{IsRun}
 use Rattle.run_model.specs.Resumes.{IsResume}
 use Rattle.run_model.specs.Drops.{IsDrop}
@@ -53,3 +55,14 @@ module _ {D M : Type 0} (state : D → DiskState) (faults : M → ℕ) (call : C
     resume = λ engines e. cc;
     drop = λ engines e. cc;
   }
+
+-- the words of a resume, as they are read
+pub reads_resume : (command : Option Command) (read : Command) (engines : ℕ) (report : Bool) → command ≡ Some read → read ≡ Resume engines report → report ≡ false → command ≡ Some (Resume engines false)
+reads_resume command read engines report is read_is report_is = is ∙ ap Some (read_is ∙ ap (Resume engines) report_is)
+
+pub reads_drop : (command : Option Command) (read : Command) (engines : ℕ) → command ≡ Some read → read ≡ Discard engines → command ≡ Some (Discard engines)
+reads_drop command read engines is read_is = is ∙ ap Some read_is
+
+-- so many engines are those of the command
+pub ready_for : {D M : Type 0} (state : D → DiskState) (moment : Moment D M) (command : Option Command) (read : Command) → command ≡ Some read → IsReady state (engines_of (Some read)) moment → IsReady state (engines_of command) moment
+ready_for state moment command read is ready = subst (λ n. IsReady state n moment) (sym (ap engines_of is)) ready
