@@ -11,7 +11,7 @@ use Rattle.round_loop.specs.Keeping.{moment}
 use Rattle.store_rounds.proofs.Places.{idle_stop}
 use Rattle.endings.specs.declared.ending.Ending.TheVariants.{Memory}
 use Rattle.run_model.specs.Calls.{Call, IsReady}
-use Rattle.run_model.specs.Drops.{IsDrop}
+use Rattle.store_drop.specs.Drops.{IsDrop}
 use Rattle.run_model.proofs.Going.{meters_same}
 use Rattle.run_model.proofs.Untouched.{prints_none}
 use Rattle.text_run.proofs.Held.{untouched, no_room}

@@ -10,8 +10,8 @@ use Rattle.endings.specs.declared.ending.Ending.{Ending}
 use Rattle.endings.specs.declared.ending.Ending.TheVariants.{Usage, Memory}
 use Rattle.run_model.specs.Calls.{Call, IsReady}
 use Rattle.run_model.specs.Runs.{IsRun}
-use Rattle.run_model.specs.Resumes.{IsResume}
-use Rattle.run_model.specs.Drops.{IsDrop}
+use Rattle.store_resume.specs.Resumes.{IsResume}
+use Rattle.store_drop.specs.Drops.{IsDrop}
 use Rattle.chaos_top.specs.Outcome.{served, IsRefusal, IsOutcome}
 
 module _ {D M : Type 0} (state : D → DiskState) (faults : M → ℕ) (call : Call D M) where

@@ -9,8 +9,8 @@ use Rattle.endings.specs.declared.ending.Ending.TheVariants.{Usage, Memory}
 use Rattle.run_model.specs.Calls.{Call}
 use Rattle.run_model.specs.Printing.{Prints}
 use Rattle.run_model.specs.Runs.{IsRun}
-use Rattle.run_model.specs.Resumes.{IsResume}
-use Rattle.run_model.specs.Drops.{IsDrop}
+use Rattle.store_resume.specs.Resumes.{IsResume}
+use Rattle.store_drop.specs.Drops.{IsDrop}
 
 -- the commands that are served; the others are answered as refused words
 abbrev pub served : Option Command → Option Command

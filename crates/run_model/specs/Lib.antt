@@ -6,5 +6,3 @@ pub mod Epochs
 pub mod Standing
 pub mod Stops
 pub mod Runs
-pub mod Resumes
-pub mod Drops

@@ -16,7 +16,7 @@ use Rattle.endings.specs.declared.ending.Ending.{Ending}
 use Rattle.endings.specs.declared.ending.Ending.TheVariants.{Dropped, DiskFault}
 use Rattle.run_model.specs.Calls.{Call, IsReady, AnyRose}
 use Rattle.run_model.specs.Stops.{AtEachStop}
-use Rattle.run_model.specs.Drops.{AllEmpty, HasDropCause, IsDrop}
+use Rattle.store_drop.specs.Drops.{AllEmpty, HasDropCause, IsDrop}
 use Rattle.run_model.proofs.Going.{all_early}
 use Rattle.run_model.proofs.Untouched.{prints_none}
 
@@ -48,8 +48,8 @@ module _ {D M : Type 0} (state : D → DiskState) (faults : M → ℕ) (call : C
     (lanes : EachRow (λ row. row.items) state (HandsBack call.after.beat) call.before.store.lanes.items call.after.store.lanes.items)
     (spills : Each state (HandsBack call.after.beat) call.before.store.spills.items call.after.store.spills.items)
     (stops : (b : ℕ) (images others : List (List ℕ)) → b ≤ call.after.beat → 0 < length call.before.store.graphs.items
-        → IsStop b (map state call.before.store.graphs.items) (map state call.after.store.graphs.items) images → IsStop b (map state call.before.store.values.items) (map state call.after.store.values.items) others
-        → (AreImages (map state call.before.store.graphs.items) images × AreImages (map state call.before.store.values.items) others) ⊎ IsUnprepared images) where
+    → IsStop b (map state call.before.store.graphs.items) (map state call.after.store.graphs.items) images → IsStop b (map state call.before.store.values.items) (map state call.after.store.values.items) others
+    → (AreImages (map state call.before.store.graphs.items) images × AreImages (map state call.before.store.values.items) others) ⊎ IsUnprepared images) where
   ready_after : IsReady state engines call.after
   ready_after = record {
     graphs = devices_back state engines call.before.beat call.after.beat call.before.store.graphs.items call.after.store.graphs.items ready.graphs graphs;

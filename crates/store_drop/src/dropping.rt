@@ -4,7 +4,7 @@ ghost use Rattle.chunk_cursor.specs.declared.view.View.{View};
 ghost use Rattle.epoch_seats.specs.Between.{IsBetweenEpochs};
 ghost use Rattle.round_steps.specs.Going.{AreDevices, AreRows};
 ghost use Rattle.round_loop.specs.Keeping.{moment};
-ghost use Rattle.run_model.specs.Drops.{IsDrop};
+ghost use Rattle.store_drop.specs.Drops.{IsDrop};
 
 use endings::Ending;
 use ports::{Beat, Disk};

@@ -27,7 +27,7 @@ use Rattle.run_model.specs.Causes.{is_interrupted, Comes}
 use Rattle.run_model.specs.Printing.{Prints}
 use Rattle.run_model.specs.Epochs.{IsComplete, HasGone}
 use Rattle.run_model.specs.Runs.{MOST_BEATS}
-use Rattle.run_model.specs.Resumes.{told_as, OfBytes, HasResumeCause, HasPrintedNothing, HasRefused, HasCauseOfJob, StandsAfterResume, GoesOnWell, IsResume}
+use Rattle.store_resume.specs.Resumes.{told_as, OfBytes, HasResumeCause, HasPrintedNothing, HasRefused, HasCauseOfJob, StandsAfterResume, GoesOnWell, IsResume}
 use Rattle.run_model.proofs.Going.{store_same}
 use Rattle.run_model.proofs.Untouched.{prints_none, gone_none, none_of_job}
 use Rattle.store_resume.specs.Refusals.{refusal}

@@ -62,7 +62,7 @@ use Rattle.run_model.specs.Epochs.{HasGone, AreJobEpochs, IsReportOf}
 use Rattle.run_model.specs.Standing.{IsStored}
 use Rattle.run_model.specs.Stops.{AtEachStop}
 use Rattle.run_model.specs.Runs.{MOST_BEATS}
-use Rattle.run_model.specs.Resumes.{told_as, IsStartOf, OfBytes, AreSettled, HasResumeCause, HasPrintedNothing, HasRefused, HasCauseOfJob, StandsAfterResume, GoesOnWell, IsResume}
+use Rattle.store_resume.specs.Resumes.{told_as, IsStartOf, OfBytes, AreSettled, HasResumeCause, HasPrintedNothing, HasRefused, HasCauseOfJob, StandsAfterResume, GoesOnWell, IsResume}
 use Rattle.run_model.proofs.Going.{devices_on, store_same, store_run, some_rose_later}
 use Rattle.run_model.proofs.Untouched.{prints_none}
 use Rattle.store_resume.specs.Going.{GoesOn}

@@ -17,7 +17,7 @@ use Rattle.round_loop.specs.Kept.{Holds, HasStood}
 use Rattle.store_rounds.specs.Going.{start_of}
 use Rattle.store_rounds.specs.Images.{AreSettledAs}
 use Rattle.store_rounds.proofs.Starting.{settled_start}
-use Rattle.run_model.specs.Resumes.{IsStartOf}
+use Rattle.store_resume.specs.Resumes.{IsStartOf}
 
 -- what is so of all that is recovered
 pub opened_found : (graphs values : List (List ℕ)) (found : Recovered) → IsRecovered graphs values found → IsOpened graphs values (job_in found) (index_in found)

@@ -9,7 +9,7 @@ ghost use Rattle.round_steps.specs.Going.{IsStore};
 ghost use Rattle.round_loop.specs.Starts.{split_for};
 ghost use Rattle.round_loop.specs.Keeping.{moment};
 ghost use Rattle.run_model.specs.Calls.{IsReady};
-ghost use Rattle.run_model.specs.Resumes.{IsResume};
+ghost use Rattle.store_resume.specs.Resumes.{IsResume};
 ghost use Rattle.store_resume.specs.Going.{GoesOn};
 ghost use Rattle.store_resume.specs.Refusals;
 

@@ -8,7 +8,7 @@ use Rattle.round_steps.specs.Going.{MeterRose}
 use Rattle.round_loop.specs.Keeping.{moment}
 use Rattle.endings.specs.declared.ending.Ending.{Ending}
 use Rattle.run_model.specs.Calls.{Call}
-use Rattle.run_model.specs.Resumes.{IsResume}
+use Rattle.store_resume.specs.Resumes.{IsResume}
 use Rattle.run_model.proofs.Going.{meters_after, meter_rose}
 use Rattle.store_resume.proofs.Refused.{cause_among, refused_resume}
 use Rattle.store_resume.proofs.Resumed.{resumed_as}
