@@ -11,7 +11,9 @@ use job_words::{Command, WordFault, job_of};
 use ports::{Beat, Disk, Gate, Sink, Source};
 use std::alloc::Global;
 use std::thread::Threads;
+use store_drop::give_up;
 use store_reader::Store;
+use store_resume::resume_store;
 use text_run::run_text;
 
 /// Does what the words ask for, or refuses them.
@@ -51,6 +53,15 @@ pub(crate) fn serve<R: Threads + Sync, S: Source, K: Sink, D: Disk, G: Gate + Sy
         Ok(Command::Run { job, report: false }) => run_text(
             rt, alloc, &job, source, out, store, meters, table, seat, gate, beat,
         ),
+        Ok(
+            Command::Resume {
+                engines,
+                report: false,
+            },
+        ) => resume_store(
+            rt, alloc, engines, out, store, meters, table, seat, gate, beat,
+        ),
+        Ok(Command::Discard { engines }) => give_up(engines, store, meters, beat),
         Ok(_) | Err(WordFault::Usage) => Ending::Usage,
         Err(WordFault::Memory) => Ending::Memory,
     }
