@@ -150,7 +150,7 @@ module _ {D M : Type 0} (state : D → DiskState) (lawful : (d : D) → IsDisk (
           (λ e d below c image. blank_is job (edges job told) e c ((whole_made told is).blank e d below c image))
           (λ e d below. (leave.of_values e d below).later)
           (λ e d below before. absurd (omega (arith, before)))
-          (λ e d b' t c below after within' before stop. (runs_well told is devices tells).since e d below b' t c after within' before stop) (omega arith) some (omega (arith, within, at, prepares.second, runs.beats.1)) (omega (arith, at, prepares.second)) within stop_values
+          (runs_well told is devices tells).since (omega arith) some (omega (arith, within, at, prepares.second, runs.beats.1)) (omega (arith, at, prepares.second)) within stop_values
 
     stops : LeavesStores state job call
     stops = record {
