@@ -21,7 +21,7 @@ const LANES: u32 = 16;
 
 const SPILLS: u32 = 80;
 
-/// Opens the files of a store of so many engines, or makes those that are missing.
+/// Opens the files of a store of so many engines, or makes those that are missing. No folder is made for none.
 pub fn open_store<R: Files<File = File> + Clone + Drop + Send + Sync>(
     rt: &R,
     alloc: Global,
@@ -30,12 +30,16 @@ pub fn open_store<R: Files<File = File> + Clone + Drop + Send + Sync>(
     requires { engines ≤ 8 }
     ensures { IfOk result (AreFiles engines) }
 {
-    make_folder(rt, FOLDER)?;
+    if engines > 0 {
+        make_folder(rt, FOLDER)?;
+    }
     let graphs = open_files(rt, alloc, "graph", 0, engines)?;
     let values = open_files(rt, alloc, "values", VALUES, engines)?;
     let lanes = open_lanes(rt, alloc, engines)?;
     let spills = open_files(rt, alloc, "spill", SPILLS, engines)?;
-    sync_folder(rt, FOLDER)?;
+    if engines > 0 {
+        sync_folder(rt, FOLDER)?;
+    }
     Ok(Store {
         graphs,
         values,

@@ -5,32 +5,46 @@
 #![tactic(auto)]
 
 mod devices;
+mod opened;
 
 use chaos_top::chaos;
-use chunk_cursor::CursorTable;
-use devices::{make_meters, open_store};
 use endings::{Ending, tell};
 use engine_gate::OpenGate;
-use job_words::wanted;
-use ports::{Beat, Sink, Source};
-use real_devices::{FileDisk, OpenFault, StreamSink, StreamSource};
+use opened::open_for;
+use ports::Sink;
+use real_devices::{OpenFault, StreamSink, StreamSource};
 use std::alloc::AllocError;
 use std::env;
-use std::fs::File;
 use std::io::ErrorKind;
 use std::process::ExitCode;
-use std::rt::{Env, Files};
-use std::thread::Threads;
-use store_reader::Store;
+use std::rt::Env;
 
 fn main(rt: HostRuntime) -> ExitCode {
     let mut source = StreamSource::new(rt.stdin());
     let mut out = StreamSink::new(rt.stdout());
     let mut err = StreamSink::new(rt.stderr());
-    let status = match words(&rt) {
-        Ok(words) => serve(&rt, &words, &mut source, &mut out, &mut err),
-        Err(AllocError) => refuse(OpenFault::Memory, &mut err),
+    let words = match words(&rt) {
+        Ok(words) => words,
+        Err(_) => return ExitCode::from(refuse(OpenFault::Memory, &mut err)),
     };
+    let mut opened = match open_for(&rt, rt.alloc(), &words) {
+        Ok(opened) => opened,
+        Err(fault) => return ExitCode::from(refuse(fault, &mut err)),
+    };
+    let status = chaos(
+        &rt,
+        rt.alloc(),
+        &words,
+        &mut source,
+        &mut out,
+        &mut err,
+        &mut opened.store,
+        &mut opened.meters,
+        &opened.table,
+        &mut opened.seat,
+        &OpenGate,
+        &mut opened.beat,
+    );
     ExitCode::from(status)
 }
 
@@ -41,51 +55,6 @@ fn words<R: Env + AllocGlobal>(rt: &R) -> Result<Vec<String>, AllocError> {
         Err(error) if error.kind() == ErrorKind::OutOfMemory => Err(AllocError),
         Err(_) => Ok(Vec::new(rt.alloc())),
     }
-}
-
-/// Serves the words on the files of as many engines as they want.
-fn serve<R, S: Source, K: Sink, E: Sink>(
-    rt: &R,
-    words: &[String],
-    source: &mut S,
-    out: &mut K,
-    err: &mut E,
-) -> u8
-where
-    R: Threads + Files<File = File> + AllocGlobal + Clone + Drop + Send + Sync,
-{
-    let alloc = rt.alloc();
-    let engines = match wanted(alloc, words) {
-        Ok(engines) => engines,
-        Err(_) => return refuse(OpenFault::Memory, err),
-    };
-    let mut store = match open_store(rt, alloc, engines) {
-        Ok(store) => store,
-        Err(fault) => return refuse(fault, err),
-    };
-    let mut meters = match make_meters(rt, alloc, engines) {
-        Ok(meters) => meters,
-        Err(fault) => return refuse(fault, err),
-    };
-    let (table, mut seat) = match CursorTable::new(alloc) {
-        Ok(made) => made,
-        Err(_) => return refuse(OpenFault::Memory, err),
-    };
-    let mut beat = Beat::new();
-    chaos(
-        rt,
-        alloc,
-        words,
-        source,
-        out,
-        err,
-        &mut store,
-        &mut meters,
-        &table,
-        &mut seat,
-        &OpenGate,
-        &mut beat,
-    )
 }
 
 /// Tells that the files of a store cannot be had, and answers the status of that.
