@@ -19,8 +19,8 @@ pub(crate) enum Called {
     Spill,
 }
 
-/// The call with this number, from 1, fails. `worker` is 0 where a device is an engine's, and `engine` is 0 where a device
-/// or a meter is a worker's alone.
+/// The call with this number, from 1, fails. `worker` is 0 of all but lanes and meters, and `engine` is 0 of meters; a
+/// spill is numbered by its engine, which is that of its worker.
 #[derive(Clone, Copy, PartialEq, Eq, Debug)]
 pub(crate) struct Fault {
     pub called: Called,

@@ -40,3 +40,6 @@ pub(crate) fn job_of(program: Program, row: u32) -> Job
         keep: 1,
     }
 }
+
+/// Rows of two engines, one for each alpha.
+pub(crate) const ON_TWO: [u32; 3] = [1, 9, 17];

@@ -4,6 +4,8 @@
 #![tactic(auto)]
 
 #[cfg(test)]
+mod fault_tests;
+#[cfg(test)]
 mod faults;
 #[cfg(test)]
 mod graphs;
@@ -12,8 +14,14 @@ mod jobs;
 #[cfg(test)]
 mod made;
 #[cfg(test)]
+mod meet_tests;
+#[cfg(test)]
 mod reading;
 #[cfg(test)]
 mod run_tests;
 #[cfg(test)]
 mod runs;
+#[cfg(test)]
+mod scatter_tests;
+#[cfg(test)]
+mod scatters;

@@ -58,7 +58,7 @@ fn spills(rt: &impl Abort, alloc: Global, engines: u32, fault: &Fault) -> Vec<Me
 {
     let mut devices = Vec::new(alloc);
     for worker in 0..engines {
-        let disk = fault.disk(rt, alloc, Called::Spill, worker, 0);
+        let disk = fault.disk(rt, alloc, Called::Spill, 0, worker);
         devices.push(disk).expect(rt, "room");
     }
     devices

@@ -12,8 +12,9 @@ ghost use Rattle.round_loop.specs.Conditions.{MOST_ROUNDS};
 use crate::faults::Fault;
 use crate::graphs::plain_values;
 use crate::made::{Made, meters};
-use crate::reading::{changed_in, read_values, split_of};
+use crate::reading::{changed_in, kept, read_values, split_of};
 use chunk_cursor::CursorTable;
+use engine_gate::OpenGate;
 use epoch_seats::new_seat_is_between_epochs;
 use gather_laws::VertexProgram;
 use graph_model::{Edge, Job};
@@ -95,4 +96,33 @@ pub(crate) fn expect_plain<P: VertexProgram>(
     );
     let stored = read_values(rt, alloc, &split, devices, (done.round % 2) as u32);
     assert_eq!(rt; stored.as_slice(), wanted.as_slice(), "{job:?}");
+}
+
+/// A further run from the round that stands, to the values of the plain engine.
+pub(crate) fn go_on<R: Threads + Abort + Sync, P: VertexProgram>(
+    rt: &R,
+    alloc: Global,
+    program: &P,
+    job: &Job,
+    edges: &[Edge],
+    made: &mut Made,
+)
+    requires job { IsWellFormedJob job.now }
+    requires rounds { (last : ℕ) → (P.rules program.now).rounds ≡ Some last → last ≤ MOST_ROUNDS }
+    requires store { IsStore disk_state (split_for job.now) made.old.beat made.old.store }
+    requires few { (cursor : ℕ) → lens_of made.old.index cursor ≤ most_chunks }
+{
+    let split = split_of(rt, job);
+    let start = kept(rt, alloc, &split, made.store.values.as_slice(), job.limit);
+    let answer = run(
+        rt,
+        alloc,
+        program,
+        job,
+        start,
+        made,
+        &OpenGate,
+        &Fault::NONE,
+    );
+    expect_plain(rt, alloc, program, job, edges, made, answer);
 }
