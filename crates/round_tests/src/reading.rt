@@ -1,7 +1,7 @@
 //! What stands on the values devices of a store.
 ghost use Rattle.std.specs.Prelude.{◌<◌};
 ghost use Rattle.graph_model.specs.Jobs.{IsWellFormedJob};
-ghost use Rattle.partitioner.specs.Splits.{IsSplit};
+ghost use Rattle.partitioner.specs.Splits.{IsSplit, IsSplitOf};
 
 use gather_laws::Value;
 use graph_model::Job;
@@ -15,7 +15,8 @@ use store_reader::{SlotHead, read_set, slot_head};
 
 pub(crate) fn split_of(rt: &impl Abort, job: &Job) -> Split
     requires { IsWellFormedJob job.now }
-    ensures { IsSplit result }
+    ensures split { IsSplit result }
+    ensures of_job { IsSplitOf job.now result }
 {
     match Split::of(job.vertices, job.engines, job.most) {
         Some(split) => split,

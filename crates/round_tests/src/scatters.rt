@@ -30,12 +30,12 @@ use store_reader::{Outcome, Serving, Shelf};
 
 /// One scatter epoch from the values in a slot; where there is one before, from those alone that differ there. All lanes
 /// and meters are in their places afterwards.
-pub(crate) fn scatter<R: Threads + Abort + Sync, P: VertexProgram>(
+pub(crate) fn scatter<'a, R: Threads + Abort + Sync, P: VertexProgram>(
     rt: &R,
     alloc: Global,
-    program: &P,
-    job: &Job,
-    made: &Made,
+    program: &'a P,
+    job: &'a Job,
+    made: &'a Made,
     slot: u32,
     before: Option<u32>,
     lanes: &mut Vec<Vec<MemDisk>>,
