@@ -9,3 +9,4 @@ pub mod RoundsOfJobs
 pub mod StoredChunks
 pub mod StoredRounds
 pub mod StoreLaws
+pub mod OneFault

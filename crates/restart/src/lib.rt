@@ -1,7 +1,7 @@
 //! Stores after a stop: what stands in a store that is opened again, and how a store is given up.
 //!
-//! To the room above it promises that of a store's bytes the first of six checks that fails is answered, or its job, the
-//! places of its chunks and the greatest round that every engine has; and that a store which is being dropped is never
+//! To the room above it promises that of a store's bytes the first of six checks that fails is answered, which is only
+//! one, or its job, the places of its chunks and the greatest round that every engine has; and that a store which is being dropped is never
 //! open in part: at each moment its devices are as they were, or some graph device is not open, and afterwards nothing is
 //! left of it. It touches nothing but the devices, meters and beats that it is handed.
 #![tactic(auto)]
@@ -13,6 +13,7 @@ mod drop_tests;
 mod dropping;
 #[cfg(test)]
 mod engine_tests;
+mod laws;
 #[cfg(test)]
 mod plain_checker;
 #[cfg(test)]
@@ -24,5 +25,6 @@ mod test_stores;
 mod tests;
 
 pub use dropping::drop_store;
+pub use laws::first_fault_is_one;
 pub use recovering::{Recovered, recover};
 pub use store_checks::RecoverFault;

@@ -1,7 +1,7 @@
 -- One edge more: it waits, or it fills a chunk.
-use Rattle.std.proofs.Common.{◌≡◌, ◌≢◌, ◌∙◌, ℕ, zero, suc, ◌+◌, ◌*◌, ◌/◌, ◌<◌, ◌≤◌, max, true, List, [], ◌∷◌, ◌++◌, length, get_or, set, refl, ap, sym, subst, arith}
+use Rattle.std.proofs.Common.{◌≡◌, ◌∙◌, ℕ, zero, suc, ◌+◌, ◌*◌, ◌/◌, ◌<◌, ◌≤◌, max, true, List, [], ◌∷◌, ◌++◌, length, set, refl, ap, sym, subst, arith}
 use Rattle.std.specs.List.{All}
-use Rattle.std.proofs.lemmas.List.{append-nil, length-append, get_or-set_same, length-set}
+use Rattle.std.proofs.lemmas.List.{append-nil, length-append, get_or-set_same}
 use Rattle.std.proofs.lemmas.List.Elements.{All-append, All-cons, All-nil}
 use Rattle.graph_model.specs.declared.edge.Edge.{Edge}
 use Rattle.graph_model.specs.declared.job.Job.{Job}
@@ -9,7 +9,7 @@ use Rattle.graph_model.specs.Partitions.{ceil_div}
 use Rattle.graph_model.specs.Jobs.{IsWellFormedJob, parts_of, span_of}
 use Rattle.partitioner.proofs.Made.{one-le-product}
 use Rattle.partitioner.proofs.Ranges.{span_positive, partition_of-below}
-use Rattle.chunk_model.specs.Chunks.{Chunk, full_chunks, filled_by}
+use Rattle.chunk_model.specs.Chunks.{full_chunks}
 use Rattle.chunk_model.specs.Layout.{holds_edge}
 use Rattle.chunk_model.proofs.Waiting.{item_kept, item_fills, full_chunks-more}
 use Rattle.chunk_file.specs.declared.index.Place.{Place}

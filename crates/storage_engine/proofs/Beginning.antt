@@ -1,15 +1,15 @@
 -- What stands on the devices of a store before any chunk.
-use Rattle.std.proofs.Common.{◌≡◌, ◌≢◌, ◌∙◌, ℕ, ◌+◌, ◌*◌, ◌<◌, ◌≤◌, List, [], ◌∷◌, ◌++◌, length, get_or, replicate, Option, Some, None, IfSome, IsSome, refl, ap, sym, subst, arith, zero, suc}
+use Rattle.std.proofs.Common.{◌≡◌, ◌≢◌, ◌∙◌, ℕ, ◌<◌, List, [], ◌∷◌, ◌++◌, length, get_or, replicate, Option, Some, None, IfSome, IsSome, refl, ap, sym, subst, arith}
 use Rattle.std.proofs.lemmas.List.{length-replicate, length-append, get_or-replicate}
 use Rattle.graph_model.specs.declared.job.Job.{Job}
 use Rattle.graph_model.specs.Partitions.{own_count}
 use Rattle.partitioner.specs.declared.split.Split.{Split}
 use Rattle.partitioner.specs.Splits.{IsSplitOf}
 use Rattle.store_reader.specs.Reading.{own_in}
-use Rattle.ports.specs.Disk.{DiskState, IsDisk, InEveryImage, IsSettled}
+use Rattle.ports.specs.Disk.{DiskState, IsDisk, InEveryImage}
 use Rattle.ports.specs.Told.{AsTold}
 use Rattle.store_model.specs.Gates.{OPEN}
-use Rattle.store_model.specs.Heads.{MARK, HEAD_SIZE, front, head}
+use Rattle.store_model.specs.Heads.{MARK, front}
 use Rattle.store_model.specs.Slots.{device_size, slot_start, IsBlank}
 use Rattle.store_model.specs.Kept.{own_of}
 use Rattle.store_model.proofs.Growing.{length-head}

@@ -17,10 +17,11 @@ use Rattle.store_model.specs.Heads.{IsShutGraph}
 use Rattle.store_model.specs.Slots.{IsBlank}
 use Rattle.store_model.specs.Kept.{own_of}
 use Rattle.storage_engine.specs.Making.{HasHead, IsFlushed, IsBlankDevice}
-use Rattle.storage_engine.specs.Preparing.{WhilePreparing, HasReadAll, IsMadeGraph, IsMadeValues, HasPrepareCause, Prepares}
-use Rattle.storage_engine.specs.Steps.{Anything, Step, Each, EachOne, OneRose, IsClosedFront, Opens, Opened}
+use Rattle.storage_engine.specs.Preparing.{WhilePreparing, HasReadAll, IsMadeOf, IsMadeGraph, IsMadeValues, IsOfText, HasPrepareCause, Prepares}
+use Rattle.storage_engine.specs.Steps.{Anything, Step, Each, EachOne, OneRose, IsClosedFront, IsLater, Opens, Opened}
+use Rattle.storage_engine.proofs.Keeping.{closed_shut, keeps_now, told_then}
 use Rattle.storage_engine.proofs.Every.{each_then, each_closed, one_rose_later}
-use Rattle.storage_engine.proofs.TwoBeats.{one_beat, two_beats, read_as_promised, places_as_promised, chunks_as_promised, graph_as_promised, values_first, values_second}
+use Rattle.storage_engine.proofs.TwoBeats.{one_beat, two_beats, read_as_promised, places_as_promised, chunks_as_promised, made_device, graph_as_promised, values_first, values_second}
 
 -- a well-formed job has a split
 pub few_enough : (job : Job) → IsWellFormedJob job → NeedsTooMany job.vertices job.engines job.most → ⊥
@@ -35,6 +36,29 @@ pub shut_then : {X : Type 0} (state : X → DiskState) (number : ℕ) (job : Job
     → EachOne state (λ e old new. HasHead job e new) olds mids → Each state (Step IsClosedFront number) mids news → Each state (Step IsShutGraph number) olds news
 shut_then state number job olds mids news laws first heads next =
     each_then state IsShutGraph number olds mids news laws first (each_closed state number mids news (heads_closed state job olds mids heads) next)
+
+-- so that no stop leaves an open one
+pub closed_then : {X : Type 0} (state : X → DiskState) (number : ℕ) (job : Job) (olds mids news : List X) → ((x : X) → IsDisk (state x)) → EachOne state (λ e old new. HasHead job e new) olds mids
+    → Each state (Step IsClosedFront number) mids news → All (λ x. InEveryImage (state x) IsShutGraph) news
+closed_then state number job olds mids news laws heads next = λ e d below.
+    let within : e < length mids = omega (arith, below, next.many) in
+    λ c image. closed_shut c (keeps_now IsClosedFront number (state (get_or mids e d)) (state (get_or news e d)) (laws (get_or news e d)) (next.each e d within).keeps (heads_closed state job olds mids heads e d within) c image)
+
+-- Counts of faults, and whether a device tells its bytes.
+pub later_steps : {X : Type 0} (state : X → DiskState) (P : List ℕ → Type 0) (number many : ℕ) (olds news : List X) → length olds ≡ many → Each state (Step P number) olds news
+    → (e : ℕ) (d : X) → e < many → IsLater (state (get_or olds e d)) (state (get_or news e d))
+later_steps state P number many olds news all steps e d below =
+    let step = steps.each e d (omega (arith, below, all)) in record { faults = step.faults; told = step.told }
+
+pub later_opens : {X : Type 0} (state : X → DiskState) (P : List ℕ → Type 0) (number then many : ℕ) (olds mids news : List X) → length olds ≡ many → Each state (Step P number) olds mids → Each state (Opens then) mids news
+    → (e : ℕ) (d : X) → e < many → IsLater (state (get_or olds e d)) (state (get_or news e d))
+later_opens state P number then many olds mids news all steps opens e d below =
+    let step = steps.each e d (omega (arith, below, all)) in
+    let open_step = opens.each e d (omega (arith, below, all, steps.many)) in
+    record {
+      faults = omega (arith, step.faults, open_step.faults);
+      told = told_then (state (get_or olds e d)) (state (get_or mids e d)) (state (get_or news e d)) step.told open_step.told;
+    }
 
 -- The last calls of disks are under the beat.
 pub beats_after : {X : Type 0} (state : X → DiskState) (P : List ℕ → Type 0) (number : ℕ) (olds news : List X) → All (λ x. (state x).beat ≤ number) olds → Each state (Step P number) olds news → All (λ x. (state x).beat ≤ number) news
@@ -83,27 +107,33 @@ pub made_values : {X : Type 0} (state : X → DiskState) (job : Job) (olds news 
 made_values state job olds news many blank e d below =
     let device = blank e d (omega (arith, below, many)) in record { size = device.size; blank = device.blank }
 
-made_graph_at : {X : Type 0} (state : X → DiskState) (job : Job) (text left : Option (List ℕ)) (es : List Edge) (index : List (List Place)) (mids news : List X) → length mids ≡ job.engines → length news ≡ job.engines → HasReadAll job text left es → IsFlushed state job es index mids
-    → EachOne state (λ e old new. Opened old new) mids news → (e : ℕ) (d : X) → e < job.engines → IfSome text (λ t. IsMadeGraph job t e (state (get_or news e d)))
-made_graph_at state job text left es index mids news many many' read flushed opened e d below =
-    graph_as_promised job text left es e (state (get_or mids e d)) (state (get_or news e d)) read (flushed.devices e d (omega (arith, below, many))) (opened e d (omega (arith, below, many')))
+pub made_of : {X : Type 0} (state : X → DiskState) (job : Job) (text left : Option (List ℕ)) (es : List Edge) (index : List (List Place)) (mids news : List X) → length mids ≡ job.engines → length news ≡ job.engines → HasReadAll job text left es → IsFlushed state job es index mids
+    → EachOne state (λ e old new. Opened old new) mids news → IsMadeOf state job text index news es
+made_of state job text left es index mids news many many' read flushed opened = record {
+  within = read.within;
+  few = flushed.few;
+  places = flushed.places;
+  devices = λ e d below. made_device job es e (state (get_or mids e d)) (state (get_or news e d)) (flushed.devices e d (omega (arith, below, many))) (opened e d (omega (arith, below, many')));
+  of_text = read.are_edges;
+}
 
 for_all_devices : {X : Type 0} (text : Option (List ℕ)) (n : ℕ) (P : List ℕ → ℕ → X → Type 0) → ((e : ℕ) (d : X) → e < n → IfSome text (λ t. P t e d)) → IfSome text (λ t. (e : ℕ) (d : X) → e < n → P t e d)
 for_all_devices (Some t) n P holds = holds
 for_all_devices None n P holds = tt
 
-pub made_graphs : {X : Type 0} (state : X → DiskState) (job : Job) (text left : Option (List ℕ)) (es : List Edge) (index : List (List Place)) (mids news : List X) → length mids ≡ job.engines → length news ≡ job.engines → HasReadAll job text left es → IsFlushed state job es index mids
-    → EachOne state (λ e old new. Opened old new) mids news → IfSome text (λ t. (e : ℕ) (d : X) → e < job.engines → IsMadeGraph job t e (state (get_or news e d)))
-made_graphs {X} state job text left es index mids news many many' read flushed opened =
-    for_all_devices text job.engines (λ t e d. IsMadeGraph job t e (state (get_or news e d))) (made_graph_at state job text left es index mids news many many' read flushed opened)
+pub made_graphs : {X : Type 0} (state : X → DiskState) (job : Job) (text left : Option (List ℕ)) (es : List Edge) (index : List (List Place)) (news : List X) → HasReadAll job text left es → IsMadeOf state job text index news es
+    → IfSome text (λ t. (e : ℕ) (d : X) → e < job.engines → IsMadeGraph job t e (state (get_or news e d)))
+made_graphs {X} state job text left es index news read made =
+    for_all_devices text job.engines (λ t e d. IsMadeGraph job t e (state (get_or news e d))) (λ e d below. graph_as_promised job text left es e (state (get_or news e d)) read (made.devices e d below))
 
 -- **The three ends.**
 pub prepared_first : {X : Type 0} (state : X → DiskState) (job : Job) (text left : Option (List ℕ)) (number : ℕ) (read : Type 0) (graphs graphs' values values' : List X) (fault : PrepareFault)
     → length graphs ≡ job.engines → length values ≡ job.engines → All (λ x. (state x).beat ≤ number) graphs → All (λ x. (state x).beat ≤ number) values
     → Each state (Step IsShutGraph number) graphs graphs' → Each state (Step Anything number) values values'
+    → (IsOfText fault → All (λ x. InEveryImage (state x) IsShutGraph) graphs')
     → HasPrepareCause job text (OneRose state graphs graphs' ⊎ OneRose state values values') read fault
     → Prepares state job text left number number read graphs graphs' values values' (Err fault)
-prepared_first state job text left number read graphs graphs' values values' fault many many' beats beats' steps steps' cause = record {
+prepared_first state job text left number read graphs graphs' values values' fault many many' beats beats' steps steps' shut cause = record {
   many = (steps.many ∙ many, steps'.many ∙ many');
   graph_beats = beats_after state IsShutGraph number graphs graphs' beats steps;
   value_beats = beats_after state Anything number values values' beats' steps';
@@ -111,11 +141,16 @@ prepared_first state job text left number read graphs graphs' values values' fau
   second = tt;
   few = tt;
   blank = tt;
+  made = tt;
+  later_graphs = later_steps state IsShutGraph number job.engines graphs graphs' many steps;
+  later_values = later_steps state Anything number job.engines values values' many' steps';
   accepted = tt;
   whole = tt;
   indexed = tt;
+  all_read = λ now. absurd (omega (arith, now));
   any_moment = graphs_first state job text number graphs graphs' many steps;
   any_moment_of_values = blanks_first state job number values values' many' steps';
+  shut = λ of_text e d below. shut of_text e d (omega (arith, below, many, steps.many));
   cause = cause;
   last = λ now. absurd (omega (arith, now));
 }
@@ -129,6 +164,7 @@ pub prepared_second : {X : Type 0} (state : X → DiskState) (job : Job) (text l
 prepared_second state job text left number read graphs mids graphs' values values' es index laws many many' beats beats' steps steps' read_all flushed blank opens opened =
     let mid_beats = beats_after state IsShutGraph number graphs mids beats steps in
     let new_beats = beats_after state Anything number values values' beats' steps' in
+    let made = made_of state job text left es index mids graphs' (steps.many ∙ many) (opens.many ∙ steps.many ∙ many) read_all flushed opened in
     record {
       many = (opens.many ∙ steps.many ∙ many, steps'.many ∙ many');
       graph_beats = beats_opened state number mids graphs' mid_beats opens;
@@ -137,11 +173,16 @@ prepared_second state job text left number read graphs mids graphs' values value
       second = refl;
       few = subst (λ n. n ≤ MOST_PLACES) (sym flushed.places.total) flushed.few;
       blank = made_values state job values values' (steps'.many ∙ many') blank;
+      made = (es, made);
+      later_graphs = later_opens state IsShutGraph number (number + 1) job.engines graphs mids graphs' many steps opens;
+      later_values = later_steps state Anything number job.engines values values' many' steps';
       accepted = read_as_promised job text left es read_all;
-      whole = made_graphs state job text left es index mids graphs' (steps.many ∙ many) (opens.many ∙ steps.many ∙ many) read_all flushed opened;
+      whole = made_graphs state job text left es index graphs' read_all made;
       indexed = places_as_promised job text left es index read_all flushed.places;
+      all_read = λ now. read_as_promised job text left es read_all;
       any_moment = graphs_second state job text left es index number graphs mids graphs' laws many mid_beats steps read_all flushed opens;
       any_moment_of_values = blanks_second state job number values values' laws many' new_beats steps' blank;
+      shut = tt;
       cause = tt;
       last = tt;
     }
@@ -163,11 +204,16 @@ prepared_opening_failed state job text left number read graphs mids graphs' valu
       second = tt;
       few = tt;
       blank = tt;
+      made = tt;
+      later_graphs = later_opens state IsShutGraph number (number + 1) job.engines graphs mids graphs' many steps opens;
+      later_values = later_steps state Anything number job.engines values values' many' steps';
       accepted = tt;
       whole = tt;
       indexed = tt;
+      all_read = λ now. read_as_promised job text left es read_all;
       any_moment = graphs_second state job text left es index number graphs mids graphs' laws many mid_beats steps read_all flushed opens;
       any_moment_of_values = blanks_second state job number values values' laws many' new_beats steps' blank;
+      shut = λ of_text. absurd of_text;
       cause = inl (one_rose_later state IsShutGraph number graphs mids graphs' steps rose);
       last = λ now. refl;
     }

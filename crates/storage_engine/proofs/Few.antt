@@ -1,5 +1,5 @@
 -- A text has few edges: a line that says one has three bytes at least, and a line feed ends each line but the last.
-use Rattle.std.proofs.Common.{◌≡◌, ◌∙◌, ℕ, zero, suc, flat_map, ◌+◌, ◌-◌, ◌*◌, ◌<◌, ◌==◌, get_or, ◌≤◌, List, [], ◌∷◌, ◌++◌, length, take, Bool, true, false, cond, Option, Some, None, refl, sym, ap, subst, arith, length-append}
+use Rattle.std.proofs.Common.{◌≡◌, ◌∙◌, ℕ, zero, suc, flat_map, ◌+◌, ◌-◌, ◌*◌, ◌<◌, ◌==◌, get_or, ◌≤◌, List, [], ◌∷◌, ◌++◌, length, take, Bool, true, false, cond, Option, Some, None, refl, ap, arith, length-append}
 use Rattle.std.specs.Prelude.{filter}
 use Rattle.std.specs.List.{All, slice_split, onto_first, range_with_len}
 use Rattle.std.specs.Str.Lines.{strip_carriage_return}
@@ -10,7 +10,7 @@ use Rattle.graph_model.specs.declared.job.Job.{Job}
 use Rattle.graph_model.specs.Jobs.{IsWellFormedJob, parts_of}
 use Rattle.ports.specs.Disk.{DiskState}
 use Rattle.seeded_place.specs.Placing.{Placing}
-use Rattle.chunk_model.specs.Chunks.{Chunk, full_chunks, chunk_of, left_over}
+use Rattle.chunk_model.specs.Chunks.{full_chunks, chunk_of, left_over}
 use Rattle.chunk_file.specs.declared.index.Place.{Place}
 use Rattle.chunk_file.specs.declared.index.TheConstants.{MOST_PLACES}
 use Rattle.chunk_file.specs.Places.{total_of}
@@ -20,7 +20,7 @@ use Rattle.storage_engine.proofs.Flushing.{rests_below}
 use Rattle.chunk_model.proofs.Counted.{full_chunks_few}
 use Rattle.graph_model.specs.declared.edge.Edge.{Edge}
 use Rattle.graph_model.specs.declared.edge.Meaning.TheVariants.{Nothing}
-use Rattle.graph_model.specs.EdgeText.{is_line_feed, is_separator, has_bytes, fields, parts, all_but_last, last_of, last_line, ended_lines, last_part, lines, meaning, meaning_of_fields, edge_of_fields, edge_of, edges_said, edges_of_lines, edges_of_text, begins_comment, number, directions}
+use Rattle.graph_model.specs.EdgeText.{is_line_feed, is_separator, has_bytes, fields, parts, all_but_last, last_of, last_line, ended_lines, last_part, meaning, meaning_of_fields, edge_of_fields, edge_of, edges_said, edges_of_lines, edges_of_text, begins_comment, number, directions}
 use Rattle.graph_model.specs.declared.edge.TheConstants.{MAX_WEIGHT}
 use Rattle.graph_model.proofs.TextLemmas.{has_parts, split_parts, edges_of_lines-append, edges_of_lines-one, edges_of_lines-nil}
 

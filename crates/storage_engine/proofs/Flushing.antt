@@ -1,5 +1,5 @@
 -- What waits is written, partition by partition; and how a maker begins.
-use Rattle.std.proofs.Common.{◌≡◌, ◌∙◌, ℕ, zero, suc, ◌+◌, ◌*◌, ◌<◌, ◌≤◌, List, [], ◌∷◌, ◌++◌, length, map, flat_map, replicate, take, Option, Some, None, IfSome, get_or, set, true, refl, ap, sym, subst, arith}
+use Rattle.std.proofs.Common.{◌≡◌, ◌∙◌, ℕ, suc, ◌+◌, ◌*◌, ◌<◌, ◌≤◌, List, [], ◌∷◌, ◌++◌, length, flat_map, replicate, take, Option, Some, None, IfSome, get_or, set, true, refl, ap, sym, subst, arith}
 use Rattle.std.specs.List.{All, range_with_len}
 use Rattle.std.proofs.lemmas.List.{take_more, append-nil, append_assoc, length-replicate, get_or-replicate, get_or-set_other, length-set}
 use Rattle.std.proofs.lemmas.List.Folds.{sum_by-replicate}
@@ -14,9 +14,9 @@ use Rattle.chunk_model.specs.Chunks.{Chunk, chunk_of, full_chunks, left_over}
 use Rattle.chunk_model.specs.Layout.{holds_edge}
 use Rattle.chunk_model.proofs.Waiting.{flat_map-more, hold_none}
 use Rattle.chunk_file.specs.declared.index.Place.{Place}
-use Rattle.chunk_file.specs.Places.{no_places, places_of, total_of, on_graph}
+use Rattle.chunk_file.specs.Places.{no_places, places_of, total_of}
 use Rattle.seeded_place.specs.Placing.{Placing, HasPlaced, edge_stream}
-use Rattle.store_model.specs.Graphs.{home_of, edge_chunks, places_on, graph_with}
+use Rattle.store_model.specs.Graphs.{home_of, edge_chunks, graph_with}
 use Rattle.storage_engine.specs.Making.{HasHead, HasChunks, HasPlaces, HasMade, HasMakeCause, IsMaking, IsFlushed, chunk_with}
 use Rattle.storage_engine.specs.Steps.{Step, Each, EachOne, Synced, IsClosedFront}
 use Rattle.storage_engine.specs.declared.fault.MakeFault.{MakeFault}

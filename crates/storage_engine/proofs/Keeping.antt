@@ -1,16 +1,15 @@
 -- Calls that keep what is true of every image, one after another.
-use Rattle.std.proofs.Common.{◌≡◌, ◌≢◌, ◌∙◌, ◌⊎◌, ℕ, zero, suc, ◌+◌, ◌-◌, ◌<◌, ◌≤◌, ◌==◌, max, Bool, true, false, List, [], ◌∷◌, ◌++◌, length, take, drop, get_or, Option, Some, None, IfSome, Result, Ok, Err, OnOk, inl, inr, refl, ap, sym, subst, arith}
+use Rattle.std.proofs.Common.{◌≡◌, ◌∙◌, ℕ, zero, suc, ◌+◌, ◌<◌, ◌≤◌, ◌==◌, max, Bool, true, false, List, [], ◌∷◌, ◌++◌, length, drop, get_or, Option, Some, None, IfSome, Result, Ok, Err, OnOk, inl, inr, refl, ap, sym, subst, arith}
 use Rattle.std.proofs.lemmas.Bool.{eqb-true, eqb-false}
-use Rattle.std.proofs.lemmas.List.{ext_get_or, get_or-drop, length-drop, length-append}
-use Rattle.ports.specs.Bytes.{after_write, Torn, CutShort, Same}
+use Rattle.std.proofs.lemmas.List.{ext_get_or, get_or-drop, length-drop}
+use Rattle.ports.specs.Bytes.{after_write, Torn, Same}
 use Rattle.ports.specs.Disk.{DiskState, IsDisk, InEveryImage, IsSettled, Changes, After}
-use Rattle.ports.specs.Stops.{Leaves}
 use Rattle.ports.specs.Told.{AsTold}
 use Rattle.ports.proofs.Parts.{length-torn, after_write-end}
 use Rattle.ports.proofs.Stops.{started, by_one, joined, leaves_now, weaker}
-use Rattle.store_model.specs.Gates.{OPEN}
+use Rattle.ports.proofs.Told.{as_told_same, as_told_then, as_told_weaker}
 use Rattle.store_model.specs.Heads.{IsShutGraph}
-use Rattle.storage_engine.specs.Steps.{Anything, Keeps, Step, IsClosedFront, ShutOrOpened, Appended, Opens}
+use Rattle.storage_engine.specs.Steps.{Anything, Any, Keeps, Step, IsClosedFront, ShutOrOpened, Appended, Opens}
 
 -- a call of this kind keeps P
 abbrev pub Through : (List ℕ → List ℕ → Type 0) → (List ℕ → Type 0) → Type 0
@@ -20,10 +19,21 @@ pub after_has : (part : List ℕ → List ℕ → Type 0) (P : List ℕ → Type
 after_has part P old new through all images c image =
     let before = images c image in through before.0 c before.2 (all before.0 before.1)
 
+-- a device tells its bytes or not, whatever they are
+pub told_same : (disk : DiskState) → AsTold Any disk.bytes disk.bytes
+told_same disk = as_told_same Any (λ a. tt) disk.bytes
+
+pub told_then : (old mid new : DiskState) → AsTold Any old.bytes mid.bytes → AsTold Any mid.bytes new.bytes → AsTold Any old.bytes new.bytes
+told_then old mid new first next = as_told_then Any Any Any (λ a b c p q. tt) old.bytes mid.bytes new.bytes first next
+
+pub told_any : (part : List ℕ → List ℕ → Type 0) (old new : DiskState) → AsTold part old.bytes new.bytes → AsTold Any old.bytes new.bytes
+told_any part old new told = as_told_weaker part Any (λ a b p. tt) old.bytes new.bytes told
+
 pub step_same : (P : List ℕ → Type 0) (number : ℕ) (disk : DiskState) → IsDisk disk → Step P number disk disk
 step_same P number disk law = record {
   keeps = started number disk (λ c. InEveryImage disk P → P c) law (λ c image all. all c image);
   faults = omega arith;
+  told = told_same disk;
   beat = λ before. before;
 }
 
@@ -33,6 +43,7 @@ step_call P number part old new law changes faults through = record {
   keeps = by_one number old new part (λ c. InEveryImage old P → P c) law changes (λ c image all. all c image)
       (λ c image all. after_has part P old new through all changes.images c image);
   faults = faults;
+  told = told_any part old new changes.bytes;
   beat = λ before. omega (arith, changes.beat);
 }
 
@@ -46,6 +57,7 @@ step_then P number old mid new law first next = record {
   keeps = joined number old mid new (λ c. InEveryImage old P → P c) (λ c. InEveryImage mid P → P c) first.keeps next.keeps
       (λ c kept all. kept (keeps_now P number old mid law first.keeps all));
   faults = omega (arith, first.faults, next.faults);
+  told = told_then old mid new first.told next.told;
   beat = λ before. next.beat (first.beat before);
 }
 
@@ -59,6 +71,7 @@ closed_step number old new all step = record {
   keeps = weaker number old new (λ c. InEveryImage old IsClosedFront → IsClosedFront c) (λ c. InEveryImage old IsShutGraph → IsShutGraph c) step.keeps
       (λ c kept shut. closed_shut c (kept all));
   faults = step.faults;
+  told = step.told;
   beat = step.beat;
 }
 
@@ -120,6 +133,7 @@ pub opens_same : (number : ℕ) (disk : DiskState) → IsDisk disk → InEveryIm
 opens_same number disk law closed = record {
   leaves = started number disk (ShutOrOpened disk) law (λ c image. inl (closed_shut c (closed c image)));
   faults = omega arith;
+  told = told_same disk;
   beat = λ before. before;
 }
 
@@ -127,5 +141,6 @@ pub step_anything : (P : List ℕ → Type 0) (number : ℕ) (old new : DiskStat
 step_anything P number old new step = record {
   keeps = weaker number old new (λ c. InEveryImage old P → P c) (λ c. InEveryImage old Anything → Anything c) step.keeps (λ c kept all. tt);
   faults = step.faults;
+  told = step.told;
   beat = step.beat;
 }

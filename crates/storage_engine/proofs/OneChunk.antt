@@ -1,6 +1,5 @@
 -- One chunk more: what stands on the devices and in the index.
 use Rattle.std.proofs.Common.{◌≡◌, ◌≢◌, ◌∙◌, ◌⊎◌, ℕ, ◌+◌, ◌*◌, ◌<◌, ◌≤◌, ◌==◌, Bool, true, false, List, [], ◌∷◌, ◌++◌, length, map, get_or, set, Option, Some, None, IfSome, Result, inl, inr, refl, ap, sym, subst, arith}
-use Rattle.std.specs.Prelude.{sum_by}
 use Rattle.std.proofs.lemmas.List.{map-append, length-append, get_or-set_same, get_or-set_other, length-set}
 use Rattle.std.proofs.lemmas.List.Sums.{sum_by-set, get_or-le-sum_by}
 use Rattle.graph_model.specs.declared.edge.Edge.{Edge}
@@ -19,11 +18,10 @@ use Rattle.chunk_file.specs.declared.index.Place.{Place}
 use Rattle.chunk_file.specs.declared.index.TheConstants.{MOST_PLACES}
 use Rattle.chunk_file.specs.Places.{no_places, places_of, total_of, with_place, on_graph}
 use Rattle.seeded_place.specs.Placing.{Placing, HasPlaced, edge_stream, engine_of}
-use Rattle.store_model.specs.Heads.{HEAD_SIZE}
 use Rattle.store_model.specs.Graphs.{graph_with, places_on}
 use Rattle.store_model.proofs.Growing.{next_engine, graph-here, graph-other, graph-none, length-head, length-graph, places-here, places-other_partition, places-other_engine}
 use Rattle.storage_engine.specs.Steps.{Step, IsClosedFront}
-use Rattle.storage_engine.specs.Making.{MOST_BYTES, HasHead, HasChunks, HasPlaces, HasMade, chunk_with}
+use Rattle.storage_engine.specs.Making.{MOST_BYTES, HasHead, HasChunks, HasPlaces, HasMade}
 use Rattle.storage_engine.proofs.Keeping.{keeps_now, step_call, torn_closed}
 use Rattle.storage_engine.proofs.Every.{at_set}
 

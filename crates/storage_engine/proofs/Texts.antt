@@ -1,5 +1,5 @@
 -- A source that is read piece by piece, while its edges are given to a maker.
-use Rattle.std.proofs.Common.{◌≡◌, ◌∙◌, ℕ, ◌+◌, ◌<◌, ◌≤◌, ◌⊎◌, inl, inr, List, [], ◌∷◌, ◌++◌, length, take, drop, Option, Some, None, IfSome, Bool, true, false, Result, Ok, Err, refl, sym, ap, subst, arith, nat_lt}
+use Rattle.std.proofs.Common.{◌≡◌, ◌∙◌, ℕ, ◌+◌, ◌<◌, ◌≤◌, inl, inr, List, [], ◌++◌, length, take, drop, Option, Some, None, IfSome, Bool, true, false, Ok, Err, refl, sym, ap, subst, arith, nat_lt}
 use Rattle.std.specs.List.{All}
 use Rattle.std.proofs.lemmas.List.{length-append, length-take, append-nil}
 use Rattle.std.proofs.lemmas.Bool.Decides.{nat_tests}
@@ -14,16 +14,16 @@ use Rattle.graph_model.specs.declared.edge.TextFault.{TextFault}
 use Rattle.graph_model.specs.declared.edge.TextFault.TheVariants as fault
 use Rattle.graph_model.specs.declared.job.Job.{Job}
 use Rattle.graph_model.specs.Programs.{takes_both_directions}
-use Rattle.graph_model.specs.EdgeText.{edges_of_lines, ended_lines, text_limit, refusal_so_far, refused_for, refusal, edges_of_text}
+use Rattle.graph_model.specs.EdgeText.{lines, edges_of_lines, ended_lines, text_limit, refusal_so_far, refused_for, edges_of_text}
 use Rattle.graph_model.specs.Answer.{refusal_of}
-use Rattle.graph_model.proofs.TextLemmas.{edges_of_nothing, refusal-stays}
+use Rattle.graph_model.proofs.TextLemmas.{edges_of_nothing, refusal-stays, edges_of_lines-storable}
 use Rattle.chunk_file.specs.declared.index.Place.{Place}
 use Rattle.seeded_place.specs.Placing.{Placing}
 use Rattle.edge_reader.specs.declared.reader.EdgeReader.{EdgeReader}
 use Rattle.edge_reader.specs.Reading.{HasRead, Feeds, Finishes, IsFault, Adds, AddsWithin}
 use Rattle.storage_engine.specs.Making.{AreFew, HasRoomFor, IsMaking}
 use Rattle.storage_engine.proofs.Few.{ended_few, text_few}
-use Rattle.storage_engine.specs.Preparing.{HasReadAll, HasPrepareCause, refused, stopped}
+use Rattle.storage_engine.specs.Preparing.{HasReadAll, HasPrepareCause, IsOfText, refused, stopped}
 use Rattle.storage_engine.specs.declared.fault.MakeFault.{MakeFault}
 use Rattle.storage_engine.specs.declared.fault.MakeFault.TheVariants as make
 
@@ -151,6 +151,7 @@ taken_all state job text left left' reader taken count into none new buffers buf
     let news : new ≡ finishes.added.0 = finishes.added.1 ∙ ap (λ es. es ++ finishes.added.0) empty in (
       edges_of_text job.vertices both front.fed,
       record {
+        within = edges_of_lines-storable job.vertices both (lines front.fed);
         accepted = if_told text (λ bytes. refusal_of job bytes ≡ None) (λ bytes told. rw (all bytes told).0 finishes.accepted);
         are_edges = if_told text (λ bytes. edges_of_text job.vertices both front.fed ≡ edges_of_text job.vertices both bytes) (λ bytes told. ap (edges_of_text job.vertices both) (sym (all bytes told).0));
         nothing_left = if_told text (λ _. left' ≡ Some []) (λ bytes told. (all bytes told).1);
@@ -163,6 +164,11 @@ taken_all state job text left left' reader taken count into none new buffers buf
 pub stopped_by : (job : Job) (text : Option (List ℕ)) (rose read : Type 0) (by : MakeFault) → (by ≡ make.DiskFault → rose) → HasPrepareCause job text rose read (stopped by)
 stopped_by job text rose read make.DiskFault cause = cause refl
 stopped_by job text rose read make.Memory cause = tt
+
+-- which is no answer of the text
+pub not_of_text : (by : MakeFault) → IsOfText (stopped by) → ⊥
+not_of_text make.DiskFault of_text = of_text
+not_of_text make.Memory of_text = of_text
 
 -- edges that a reader gives are of the graph
 pub sources_within : (vertices : ℕ) (none new : List Edge) → none ≡ [] → AddsWithin vertices none new → All (λ (e : Edge). e.src < vertices) new

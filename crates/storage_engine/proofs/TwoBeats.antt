@@ -1,5 +1,5 @@
 -- A store is made in one beat, and its gates are opened in the next.
-use Rattle.std.proofs.Common.{◌≡◌, ◌∙◌, ◌⊎◌, ℕ, ◌+◌, ◌<◌, ◌≤◌, List, [], ◌∷◌, ◌++◌, length, get_or, drop, Option, Some, None, IfSome, inl, inr, refl, ap, sym, subst, arith}
+use Rattle.std.proofs.Common.{◌≡◌, ◌∙◌, ◌⊎◌, ℕ, ◌+◌, ◌<◌, ◌≤◌, List, [], ◌∷◌, length, Option, Some, None, IfSome, inl, inr, refl, ap, subst, arith}
 use Rattle.graph_model.specs.declared.edge.Edge.{Edge}
 use Rattle.graph_model.specs.declared.job.Job.{Job}
 use Rattle.graph_model.specs.Answer.{edges, IsAccepted}
@@ -15,10 +15,11 @@ use Rattle.ports.specs.Bytes.{after_write}
 use Rattle.ports.specs.Disk.{DiskState, IsDisk, InEveryImage}
 use Rattle.ports.specs.Stops.{Leaves, LeavesByBeat}
 use Rattle.ports.proofs.Stops.{in_turn, by_beat, by_beat_weaker, weaker}
+use Rattle.ports.proofs.Told.{settled_has}
 use Rattle.store_model.specs.Gates.{OPEN}
-use Rattle.store_model.specs.Heads.{IsShutGraph, front, head}
+use Rattle.store_model.specs.Heads.{IsShutGraph, front}
 use Rattle.store_model.specs.Graphs.{graph_with, graph, edge_chunks}
-use Rattle.storage_engine.specs.Steps.{Anything, Step, Opens, Opened, IsClosedFront, ShutOrOpened}
+use Rattle.storage_engine.specs.Steps.{Anything, Step, Opens, Opened, IsClosedFront, ShutOrOpened, HoldsExactly}
 use Rattle.storage_engine.specs.Preparing.{WhilePreparing, HasReadAll, HasPrepareCause, IsMadeGraph}
 use Rattle.storage_engine.proofs.Keeping.{closed_shut}
 
@@ -104,22 +105,26 @@ opened_read g (Some a) None opened is = absurd opened
 opened_read g None (Some b) opened is = absurd opened
 opened_read g None None opened is = tt
 
-made_device : (job : Job) (es : List Edge) (e : ℕ) (mid new : DiskState) → HasChunks job (edge_chunks job es) e mid → Opened mid new
-    → (new.size ≡ length (graph job es e)) × IfSome new.bytes (λ told. told ≡ graph job es e)
+-- an opened device is exactly the graph device of its edges
+pub made_device : (job : Job) (es : List Edge) (e : ℕ) (mid new : DiskState) → HasChunks job (edge_chunks job es) e mid → Opened mid new → HoldsExactly (graph job es e) new
 made_device job es e mid new has opened =
     let whole : after_write 0 (OPEN ∷ []) (graph_with 0 job e (edge_chunks job es)) ≡ graph job es e = gate_opened job e (edge_chunks job es) in
-    let sizes : length (graph_with 0 job e (edge_chunks job es)) ≡ length (graph job es e) = omega (arith, length-graph 0 job e (edge_chunks job es), length-graph OPEN job e (edge_chunks job es)) in (
-      opened.size ∙ has.size ∙ sizes,
-      subst (λ b. IfSome new.bytes (λ told. told ≡ b)) whole (opened_read (graph_with 0 job e (edge_chunks job es)) mid.bytes new.bytes opened.bytes has.read),
-    )
+    let sizes : length (graph_with 0 job e (edge_chunks job es)) ≡ length (graph job es e) = omega (arith, length-graph 0 job e (edge_chunks job es), length-graph OPEN job e (edge_chunks job es)) in
+    let reads : IfSome new.bytes (λ told. told ≡ graph job es e) =
+    subst (λ b. IfSome new.bytes (λ told. told ≡ b)) whole (opened_read (graph_with 0 job e (edge_chunks job es)) mid.bytes new.bytes opened.bytes has.read) in
+    record {
+      size = opened.size ∙ has.size ∙ sizes;
+      read = reads;
+      images = settled_has new (λ c. c ≡ graph job es e) opened.settled reads;
+    }
 
-pub graph_as_promised : (job : Job) (text left : Option (List ℕ)) (graph_edges : List Edge) (e : ℕ) (mid new : DiskState) → HasReadAll job text left graph_edges → HasChunks job (edge_chunks job graph_edges) e mid → Opened mid new
+pub graph_as_promised : (job : Job) (text left : Option (List ℕ)) (graph_edges : List Edge) (e : ℕ) (new : DiskState) → HasReadAll job text left graph_edges → HoldsExactly (graph job graph_edges e) new
     → IfSome text (λ t. IsMadeGraph job t e new)
-graph_as_promised job text left graph_edges e mid new read has opened =
-    if_some text (told_graph job text left graph_edges (λ es. (new.size ≡ length (graph job es e)) × IfSome new.bytes (λ told. told ≡ graph job es e)) read (made_device job graph_edges e mid new has opened))
+graph_as_promised job text left graph_edges e new read holds =
+    if_some text (told_graph job text left graph_edges (λ es. HoldsExactly (graph job es e) new) read holds)
   where
-    if_some : (x : Option (List ℕ)) → IfSome x (λ t. (new.size ≡ length (graph job (edges job t) e)) × IfSome new.bytes (λ told. told ≡ graph job (edges job t) e)) → IfSome x (λ t. IsMadeGraph job t e new)
-    if_some (Some t) has = record { size = has.0; read = has.1 }
+    if_some : (x : Option (List ℕ)) → IfSome x (λ t. HoldsExactly (graph job (edges job t) e) new) → IfSome x (λ t. IsMadeGraph job t e new)
+    if_some (Some t) has = record { size = has.size; read = has.read; images = has.images }
     if_some None has = tt
 
 pub chunks_as_promised : (job : Job) (text left : Option (List ℕ)) (graph_edges : List Edge) (e : ℕ) (disk : DiskState) → HasReadAll job text left graph_edges → HasChunks job (edge_chunks job graph_edges) e disk

@@ -3,6 +3,7 @@ use Rattle.std.specs.Prelude.{◌≡◌, ◌⊎◌, ℕ, ◌+◌, ◌<◌, ◌�
 use Rattle.graph_model.specs.declared.edge.TextFault.TheVariants as text
 use Rattle.graph_model.specs.declared.edge.Edge.{Edge}
 use Rattle.graph_model.specs.declared.edge.TextFault.{TextFault}
+use Rattle.graph_model.specs.declared.edge.TheConstants.{MAX_WEIGHT}
 use Rattle.graph_model.specs.declared.job.Job.{Job}
 use Rattle.storage_engine.specs.declared.fault.MakeFault.{MakeFault}
 use Rattle.storage_engine.specs.declared.fault.MakeFault.TheVariants as make
@@ -14,7 +15,7 @@ use Rattle.chunk_file.specs.Places.{total_of}
 use Rattle.ports.specs.Disk.{DiskState, InEveryImage}
 use Rattle.ports.specs.Stops.{LeavesByBeat}
 use Rattle.storage_engine.specs.Making.{HasPlaces}
-use Rattle.storage_engine.specs.Steps.{OneRose}
+use Rattle.storage_engine.specs.Steps.{OneRose, HoldsExactly, IsLater}
 use Rattle.store_model.specs.Heads.{IsShutGraph}
 use Rattle.store_model.specs.Slots.{device_size, IsBlank}
 use Rattle.store_model.specs.Graphs.{graph, edge_chunks}
@@ -26,6 +27,19 @@ use Rattle.storage_engine.specs.declared.fault.PrepareFault.TheVariants.{BadLine
 pub record IsMadeGraph (job : Job) (text : List ℕ) (e : ℕ) (disk : DiskState) : Type 0 where
   pub size : disk.size ≡ length (graph job (edges job text) e)
   pub read : IfSome disk.bytes (λ told. told ≡ graph job (edges job text) e)
+  pub images : InEveryImage disk (λ c. c ≡ graph job (edges job text) e)
+
+-- an edge that a text of the job may have: both ends are vertices, and the weight is in range
+abbrev pub IsEdgeOfText : Job → Edge → Type 0
+IsEdgeOfText job edge = (edge.src < job.vertices) × (edge.dst < job.vertices) × (edge.weight ≤ MAX_WEIGHT)
+
+-- **A store was made of these edges**, which are those of the text where the source tells it.
+pub record IsMadeOf {X : Type 0} (state : X → DiskState) (job : Job) (text : Option (List ℕ)) (index : List (List Place)) (graphs : List X) (given : List Edge) : Type 0 where
+  pub within : All (IsEdgeOfText job) given
+  pub few : length (edge_chunks job given) ≤ MOST_PLACES
+  pub places : HasPlaces job (edge_chunks job given) index
+  pub devices : (e : ℕ) (d : X) → e < job.engines → HoldsExactly (graph job given e) (state (slice_index_or graphs e d))
+  pub of_text : IfSome text (λ told. given ≡ edges job told)
 
 -- A stop in beat b leaves of the graph device of engine e: before the second beat what was not open is not open, and
 -- from it on the device is not open, or it is whole.
@@ -47,6 +61,14 @@ HasPrepareCause job told rose read ReadFault = read
 HasPrepareCause job told rose read DiskFault = rose
 HasPrepareCause job told rose read Memory = Unit {0}
 
+-- an answer that is given only after the source was read
+abbrev pub IsOfText : PrepareFault → Type 0
+IsOfText (BadLine line) = Unit {0}
+IsOfText TooLong = Unit {0}
+IsOfText ReadFault = Unit {0}
+IsOfText DiskFault = ⊥
+IsOfText Memory = ⊥
+
 -- by which answer a refusal of the text is told, and what stops the making of chunks
 abbrev pub refused : TextFault → PrepareFault
 refused (text.BadLine line) = BadLine line
@@ -59,6 +81,7 @@ stopped make.Memory = Memory
 
 -- all of the text was read, and these are its edges
 pub record HasReadAll (job : Job) (told left : Option (List ℕ)) (graph : List Edge) : Type 0 where
+  pub within : All (IsEdgeOfText job) graph
   pub accepted : IfSome told (IsAccepted job)
   pub are_edges : IfSome told (λ bytes. graph ≡ edges job bytes)
   pub nothing_left : IfSome told (λ _. left ≡ Some [])
@@ -74,15 +97,22 @@ pub record Prepares {X : Type 0} (state : X → DiskState) (job : Job) (text lef
   pub second : OnOk result (now ≡ number + 1)
   pub few : IfOk result (λ index. total_of index ≤ MOST_PLACES)
   pub blank : OnOk result ((e : ℕ) (d : X) → e < job.engines → IsMadeValues job e (state (slice_index_or values' e d)))
+  pub made : IfOk result (λ index. (given : List Edge) × IsMadeOf state job text index graphs' given)
+  pub later_graphs : (e : ℕ) (d : X) → e < job.engines → IsLater (state (slice_index_or graphs e d)) (state (slice_index_or graphs' e d))
+  pub later_values : (e : ℕ) (d : X) → e < job.engines → IsLater (state (slice_index_or values e d)) (state (slice_index_or values' e d))
   -- of the text, where the source tells it
   pub accepted : OnOk result (IfSome text (λ told. IsAccepted job told × (left ≡ Some [])))
   pub whole : OnOk result (IfSome text (λ told. (e : ℕ) (d : X) → e < job.engines → IsMadeGraph job told e (state (slice_index_or graphs' e d))))
   pub indexed : IfOk result (λ index. IfSome text (λ told. HasPlaces job (edge_chunks job (edges job told)) index))
+  -- in the second beat all of it was read, also where an opening of a gate then failed
+  pub all_read : now ≡ number + 1 → IfSome text (λ told. IsAccepted job told × (left ≡ Some []))
   -- what a stop leaves, at any moment
   pub any_moment : (e : ℕ) (d : X) → e < job.engines → LeavesByBeat (state (slice_index_or graphs e d)) (state (slice_index_or graphs' e d))
       (λ b c. b ≤ now → WhilePreparing job text (number + 1) e (state (slice_index_or graphs e d)) b c)
   pub any_moment_of_values : (e : ℕ) (d : X) → e < job.engines → LeavesByBeat (state (slice_index_or values e d)) (state (slice_index_or values' e d))
       (λ b c. b ≤ now → number + 1 ≤ b → IsBlank (own_of job e) c)
+  -- once the source was read no stop leaves an open graph device, however they were at the start
+  pub shut : IfErr result (λ fault. IsOfText fault → (e : ℕ) (d : X) → e < job.engines → InEveryImage (state (slice_index_or graphs' e d)) IsShutGraph)
   -- why it was refused; in the second beat only the opening of the gates fails
   pub cause : IfErr result (HasPrepareCause job text (OneRose state graphs graphs' ⊎ OneRose state values values') read)
   pub last : IfErr result (λ fault. now ≡ number + 1 → fault ≡ DiskFault)

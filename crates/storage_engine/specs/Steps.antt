@@ -12,10 +12,20 @@ use Rattle.store_model.specs.Heads.{IsShutGraph}
 abbrev pub Keeps : (P : List ℕ → Type 0) → (number : ℕ) → (old new : DiskState) → Type 0
 Keeps P number old new = Leaves number old new (λ c. InEveryImage old P → P c)
 
+-- any bytes may follow on any
+abbrev pub Any : List ℕ → List ℕ → Type 0
+Any before now = Unit {0}
+
+-- the count of faults does not fall, and the device tells its bytes just where it did before
+pub record IsLater (old new : DiskState) : Type 0 where
+  pub faults : old.faults ≤ new.faults
+  pub told : AsTold Any old.bytes new.bytes
+
 -- Calls under the beat of this number, whatever they answer: they keep P, and the count of faults does not fall.
 pub record Step (P : List ℕ → Type 0) (number : ℕ) (old new : DiskState) : Type 0 where
   pub keeps : Keeps P number old new
   pub faults : old.faults ≤ new.faults
+  pub told : AsTold Any old.bytes new.bytes
   pub beat : old.beat ≤ number → new.beat ≤ number
 
 -- the same of each of several devices
@@ -66,9 +76,11 @@ pub record Synced (old new : DiskState) : Type 0 where
 pub record Opens (number : ℕ) (old new : DiskState) : Type 0 where
   pub leaves : Leaves number old new (ShutOrOpened old)
   pub faults : old.faults ≤ new.faults
+  pub told : AsTold Any old.bytes new.bytes
   pub beat : old.beat ≤ number → new.beat ≤ number
 
--- the gate was opened
+-- the gate was opened, and a stop leaves what a read gives
 pub record Opened (old new : DiskState) : Type 0 where
   pub bytes : AsTold (λ a b. b ≡ after_write 0 (OPEN ∷ []) a) old.bytes new.bytes
   pub size : new.size ≡ old.size
+  pub settled : IsSettled new

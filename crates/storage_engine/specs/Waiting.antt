@@ -1,5 +1,5 @@
 -- Edges that wait in buffers, one for each partition.
-use Rattle.std.specs.Prelude.{ℕ, List, [], ◌∷◌, ◌++◌, map, slice_index_or, slice_set}
+use Rattle.std.specs.Prelude.{ℕ, List, [], ◌∷◌, ◌++◌, slice_index_or, slice_set}
 use Rattle.graph_model.specs.declared.edge.Edge.{Edge}
 
 abbrev pub no_edges : List Edge

@@ -4,10 +4,11 @@ ghost use Rattle.std.specs.List.{All};
 ghost use Rattle.graph_model.specs.declared.edge.Edge.{Edge};
 ghost use Rattle.graph_model.specs.Jobs.{IsWellFormedJob};
 ghost use Rattle.partitioner.specs.Splits.{IsSplit, IsSplitOf};
+ghost use Rattle.ports.specs.Disk.{InEveryImage};
 ghost use Rattle.ports.specs.Faults.{Rose};
 ghost use Rattle.store_model.specs.Heads.{IsShutGraph};
 ghost use Rattle.storage_engine.specs.Making.{IsFlushed, IsBlankDevice};
-ghost use Rattle.storage_engine.specs.Preparing.{HasReadAll, HasPrepareCause, Prepares};
+ghost use Rattle.storage_engine.specs.Preparing.{HasReadAll, HasPrepareCause, IsOfText, Prepares};
 ghost use Rattle.storage_engine.specs.Steps.{Anything, Step, Each, EachOne, OneRose};
 
 use crate::begin::begin_devices;
@@ -50,6 +51,7 @@ pub fn prepare<S: Source, D: Disk>(
     requires value_beats { All (λ disk. (D.state disk).beat ≤ beat.old) store.old.values.items }
     requires room { beat.old ≤ 2 ^ 63 + 10 }
     ensures rest { (store.new.lanes ≡ store.old.lanes) × (store.new.spills ≡ store.old.spills) × (meter.new ≡ meter.old) }
+    ensures source { S.faults source.old ≤ S.faults source.new }
     ensures prepares { Prepares D.state job.now (S.left source.old) (S.left source.new) beat.old beat.new (Rose (S.faults source.old) (S.faults source.new))
         store.old.graphs.items store.new.graphs.items store.old.values.items store.new.values.items result }
 {
@@ -80,7 +82,8 @@ fn prepare_devices<S: Source, D: Disk>(
     requires graph_beats { All (λ disk. (D.state disk).beat ≤ beat.old) graphs.old }
     requires value_beats { All (λ disk. (D.state disk).beat ≤ beat.old) values.old }
     requires room { beat.old ≤ 2 ^ 63 + 10 }
-    ensures { Prepares D.state job.now (S.left source.old) (S.left source.new) beat.old beat.new (Rose (S.faults source.old) (S.faults source.new)) graphs.old graphs.new values.old values.new result }
+    ensures source { S.faults source.old ≤ S.faults source.new }
+    ensures prepares { Prepares D.state job.now (S.left source.old) (S.left source.new) beat.old beat.new (Rose (S.faults source.old) (S.faults source.new)) graphs.old graphs.new values.old values.new result }
 {
     let index = match make_closed(alloc, job, source, graphs, values, beat) {
         Ok(index) => index,
@@ -112,6 +115,8 @@ fn make_closed<S: Source, D: Disk>(
     ensures values { Each D.state (Step Anything beat.now) values.old values.new }
     ensures made { IfOk result (λ index. (graph : List Edge) × HasReadAll job.now (S.left source.old) (S.left source.new) graph × IsFlushed D.state job.now graph index graphs.new) }
     ensures blank { OnOk result (EachOne D.state (λ e old new. IsBlankDevice job.now e new) values.old values.new) }
+    ensures source { S.faults source.old ≤ S.faults source.new }
+    ensures shut { IfErr result (λ fault. IsOfText fault → All (λ disk. InEveryImage (D.state disk) IsShutGraph) graphs.new) }
     ensures cause { IfErr result (HasPrepareCause job.now (S.left source.old) (OneRose D.state graphs.old graphs.new ⊎ OneRose D.state values.old values.new) (Rose (S.faults source.old) (S.faults source.new))) }
 {
     let split = split_of(job);

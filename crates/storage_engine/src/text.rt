@@ -36,6 +36,7 @@ pub(crate) fn make_chunks<S: Source, D: Disk>(
     ensures steps { Each D.state (Step IsClosedFront beat.now) graphs.old graphs.new }
     ensures made { OnOk result ((edges : List Edge) × HasReadAll maker.old.job (S.left source.old) (S.left source.new) edges
         × IsMaking D.state maker.old.job edges maker.new.buffers maker.new.placer maker.new.index graphs.new × AreFew maker.old.job edges) }
+    ensures source { S.faults source.old ≤ S.faults source.new }
     ensures cause { IfErr result (HasPrepareCause maker.old.job (S.left source.old) (OneRose D.state graphs.old graphs.new) (Rose (S.faults source.old) (S.faults source.new))) }
 {
     let job = maker.job;

@@ -1,10 +1,10 @@
-use Rattle.std.proofs.Common.{◌≡◌, ◌∙◌, ◌<◌, ℕ, [], ◌∷◌, length, get_or, replicate, Result, Ok, Err, OnOk, arith, sym, subst, ap}
-use Rattle.store_model.specs.Heads.{MARK, IsShutGraph, front}
+use Rattle.std.proofs.Common.{◌≡◌, ◌∙◌, ◌<◌, length, get_or, Result, Ok, Err, OnOk, arith, ap}
+use Rattle.store_model.specs.Heads.{IsShutGraph}
 use Rattle.store_model.specs.Slots.{device_size}
 use Rattle.store_model.specs.Kept.{own_of}
 use Rattle.store_reader.specs.Reading.{own_in}
-use Rattle.storage_engine.specs.Making.{HasHead, IsBlankDevice}
-use Rattle.storage_engine.specs.Steps.{Anything, Step, Each, EachOne, IsClosedFront, HoldsExactly, Appended}
+use Rattle.storage_engine.specs.Making.{IsBlankDevice}
+use Rattle.storage_engine.specs.Steps.{Anything, EachOne}
 use Rattle.storage_engine.proofs.Keeping.{on_ok_map}
 use Rattle.storage_engine.proofs.Beginning.{length-front, all_closed, head_made, blank_made, own_same}
 use Rattle.storage_engine.proofs.Every.{each_then, each_closed, each_anything}

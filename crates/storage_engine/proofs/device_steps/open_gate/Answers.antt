@@ -1,4 +1,4 @@
-use Rattle.storage_engine.proofs.Keeping.{opens}
+use Rattle.storage_engine.proofs.Keeping.{opens, told_any}
 use Rattle.std.proofs.Common.{arith}
 use Rattle.ports.specs.Bytes.{Torn}
 use Rattle.ports.specs.Disk.{After}
@@ -13,5 +13,6 @@ returns-clause-opens g c =
     record {
       leaves = weaker c.args.beat.now start new (After (Torn 0 1) start) (ShutOrOpened start) c.write_synced.ensures.any_moment (opens start c.requires.settled c.requires.closed);
       faults = c.write_synced.ensures.cause.later;
+      told = told_any (Torn 0 1) start new c.write_synced.ensures.bytes;
       beat = λ before. omega (arith, c.write_synced.ensures.beat);
     }

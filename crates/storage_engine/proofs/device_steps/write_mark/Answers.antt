@@ -1,7 +1,4 @@
-use Rattle.std.proofs.Common.{◌≡◌, ◌∙◌, ℕ, ◌≤◌, List, Option, Some, None, Result, Ok, Err, OnOk, ◌∷◌, [], ◌++◌, length, refl, arith}
-use Rattle.ports.specs.Told.{AsTold}
-use Rattle.ports.specs.Bytes.{after_write}
-use Rattle.ports.specs.Disk.{IsDisk}
+use Rattle.std.proofs.Common.{◌∷◌, [], arith}
 use Rattle.storage_engine.specs.Steps.{IsClosedFront}
 use Rattle.storage_engine.proofs.Keeping.{step_call, torn_closed, appends}
 use Rattle.ports.proofs.Told.{on_ok_two}

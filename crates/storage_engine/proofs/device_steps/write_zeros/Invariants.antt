@@ -1,4 +1,4 @@
-use Rattle.std.proofs.Common.{◌≡◌, ℕ, ◌-◌, ◌≤◌, IfSome, replicate}
+use Rattle.std.proofs.Common.{◌≡◌, ◌-◌, ◌≤◌, IfSome, replicate}
 use Rattle.storage_engine.specs.Steps.{Anything, Step}
 use Rattle.storage_engine.proofs.device_steps.write_zeros.Given as goal
 

@@ -1,11 +1,7 @@
-use Rattle.std.proofs.Common.{◌≡◌, ℕ, ◌<◌, ◌≤◌, [], ◌∷◌, get_or, length, replicate, arith, rules, sym, subst, refl}
-use Rattle.std.proofs.lemmas.Grind.{common_steps, elements}
-use Rattle.ports.specs.Disk.{DiskState}
-use Rattle.store_model.specs.Heads
-use Rattle.store_model.specs.Heads.{IsShutGraph, front}
-use Rattle.store_model.specs.Slots
-use Rattle.store_reader.specs.Reading.{own_in}
-use Rattle.storage_engine.specs.Steps.{Anything, Step, IsClosedFront, HoldsExactly, Appended, Synced}
+use Rattle.std.proofs.Common.{◌<◌, [], length, arith, rules}
+use Rattle.std.proofs.lemmas.Grind.{common_steps}
+use Rattle.store_model.specs.Heads.{IsShutGraph}
+use Rattle.storage_engine.specs.Steps.{Step, HoldsExactly}
 use Rattle.storage_engine.proofs.Every.{none_done, one_done, each_set, each_same}
 use Rattle.storage_engine.proofs.each_device.clear_all.Goals as goal
 

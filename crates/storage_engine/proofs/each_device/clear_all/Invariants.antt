@@ -1,9 +1,6 @@
-use Rattle.std.proofs.Common.{◌≡◌, ℕ, ◌<◌, ◌≤◌, [], ◌∷◌, get_or, replicate}
-use Rattle.store_model.specs.Heads
-use Rattle.store_model.specs.Heads.{IsShutGraph, front}
-use Rattle.store_model.specs.Slots
-use Rattle.store_reader.specs.Reading.{own_in}
-use Rattle.storage_engine.specs.Steps.{Anything, Step, IsClosedFront, HoldsExactly, Appended, Synced}
+use Rattle.std.proofs.Common.{[]}
+use Rattle.store_model.specs.Heads.{IsShutGraph}
+use Rattle.storage_engine.specs.Steps.{Step, HoldsExactly}
 use Rattle.storage_engine.proofs.Every.{DoneBelow}
 use Rattle.storage_engine.proofs.each_device.clear_all.Given as goal
 

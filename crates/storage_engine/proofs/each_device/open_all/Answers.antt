@@ -1,4 +1,4 @@
-use Rattle.std.proofs.Common.{◌≡◌, ℕ, ◌<◌, ◌≤◌, get_or, length, arith, rules, sym, subst}
+use Rattle.std.proofs.Common.{◌<◌, ◌≤◌, length, arith, rules, sym, subst}
 use Rattle.std.proofs.lemmas.Grind.{common_steps}
 use Rattle.ports.specs.Disk.{IsSettled, InEveryImage}
 use Rattle.storage_engine.specs.Steps.{Opens, Opened, IsClosedFront}

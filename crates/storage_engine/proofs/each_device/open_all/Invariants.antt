@@ -1,4 +1,3 @@
-use Rattle.std.proofs.Common.{ℕ}
 use Rattle.storage_engine.specs.Steps.{Opens, Opened}
 use Rattle.storage_engine.proofs.Every.{DoneBelow}
 use Rattle.storage_engine.proofs.each_device.open_all.Given as goal

@@ -1,11 +1,8 @@
-use Rattle.std.proofs.Common.{◌≡◌, ℕ, ◌<◌, ◌≤◌, [], ◌∷◌, get_or, length, replicate, arith, rules, sym, subst, ap, ◌∙◌, refl}
-use Rattle.std.proofs.lemmas.Grind.{common_steps, elements}
-use Rattle.ports.specs.Disk.{DiskState}
-use Rattle.store_model.specs.Heads
-use Rattle.store_model.specs.Heads.{IsShutGraph, front}
+use Rattle.std.proofs.Common.{◌<◌, length, replicate, arith, rules, subst, ap, ◌∙◌}
+use Rattle.std.proofs.lemmas.Grind.{common_steps}
 use Rattle.store_model.specs.Slots
 use Rattle.store_reader.specs.Reading.{own_in}
-use Rattle.storage_engine.specs.Steps.{Anything, Step, IsClosedFront, HoldsExactly, Appended, Synced}
+use Rattle.storage_engine.specs.Steps.{Anything, Step, HoldsExactly}
 use Rattle.storage_engine.proofs.Every.{none_done, one_done, each_set, each_same}
 use Rattle.storage_engine.proofs.each_device.write_all_zeros.Goals as goal
 

@@ -1,9 +1,7 @@
-use Rattle.std.proofs.Common.{◌≡◌, ℕ, ◌<◌, ◌≤◌, [], ◌∷◌, get_or, replicate}
-use Rattle.store_model.specs.Heads
-use Rattle.store_model.specs.Heads.{IsShutGraph, front}
+use Rattle.std.proofs.Common.{replicate}
 use Rattle.store_model.specs.Slots
 use Rattle.store_reader.specs.Reading.{own_in}
-use Rattle.storage_engine.specs.Steps.{Anything, Step, IsClosedFront, HoldsExactly, Appended, Synced}
+use Rattle.storage_engine.specs.Steps.{Anything, Step, HoldsExactly}
 use Rattle.storage_engine.proofs.Every.{DoneBelow}
 use Rattle.storage_engine.proofs.each_device.write_all_zeros.Given as goal
 

@@ -1,9 +1,7 @@
-use Rattle.std.proofs.Common.{◌≡◌, ℕ, ◌<◌, ◌≤◌, [], ◌∷◌, get_or, replicate}
+use Rattle.std.proofs.Common.{[], ◌∷◌}
 use Rattle.store_model.specs.Heads
 use Rattle.store_model.specs.Heads.{IsShutGraph, front}
-use Rattle.store_model.specs.Slots
-use Rattle.store_reader.specs.Reading.{own_in}
-use Rattle.storage_engine.specs.Steps.{Anything, Step, IsClosedFront, HoldsExactly, Appended, Synced}
+use Rattle.storage_engine.specs.Steps.{Step, IsClosedFront, Appended}
 use Rattle.storage_engine.proofs.Every.{DoneBelow}
 use Rattle.storage_engine.proofs.each_device.write_marks.Given as goal
 

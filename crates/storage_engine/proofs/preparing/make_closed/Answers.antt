@@ -1,17 +1,16 @@
-use Rattle.std.proofs.Common.{◌≡◌, ◌∙◌, ◌⊎◌, inl, inr, ℕ, List, [], length, replicate, refl, sym, ap, subst}
+use Rattle.std.proofs.Common.{◌≡◌, ◌∙◌, ◌⊎◌, inl, ℕ, [], length, replicate, sym, ap, subst}
 use Rattle.std.proofs.lemmas.List.{length-replicate}
-use Rattle.graph_model.specs.declared.edge.Edge.{Edge}
 use Rattle.graph_model.specs.declared.job.Job.{Job}
 use Rattle.ports.specs.Faults.{Rose}
 use Rattle.store_model.specs.Heads.{IsShutGraph}
 use Rattle.std.proofs.lemmas.List.{append-nil}
 use Rattle.storage_engine.specs.Making.{AreFew, HasRoomFor, IsMaking, IsFlushed}
 use Rattle.storage_engine.specs.Preparing.{HasReadAll, HasPrepareCause}
-use Rattle.storage_engine.specs.Steps.{Step, Each, OneRose, IsClosedFront}
+use Rattle.storage_engine.specs.Steps.{OneRose, IsClosedFront}
 use Rattle.storage_engine.proofs.Every.{each_then, one_rose_later}
-use Rattle.storage_engine.proofs.Texts.{stopped_by}
+use Rattle.storage_engine.proofs.Texts.{stopped_by, not_of_text}
 use Rattle.storage_engine.proofs.TwoBeats.{cause_weaker}
-use Rattle.storage_engine.proofs.Ends.{shut_then}
+use Rattle.storage_engine.proofs.Ends.{shut_then, closed_then}
 use Rattle.storage_engine.proofs.preparing.make_closed.Goals as goal
 
 pub begin_devices-requires-clause-zeros : goal.begin_devices-requires-clause-zeros
@@ -23,6 +22,11 @@ pub returns-in-Err-make_chunks-clause-graphs : goal.returns-in-Err-make_chunks-c
 returns-in-Err-make_chunks-clause-graphs g c =
     let disks = g.met.D.Disk g.world.𝓛 g.world.𝓜 g.world.𝓡 ((λ s x. x), (λ x. x), (λ x. x), λ x. x) in
     shut_then g.D.Disk.state c.args.beat.now c.args.job.now c.args.graphs.now c.begin_devices.new.graphs c.make_chunks.new.graphs disks.lawful c.begin_devices.ensures.graphs c.in_default-begin_devices.ensures.heads c.make_chunks.ensures.steps
+
+pub returns-in-Err-make_chunks-clause-shut : goal.returns-in-Err-make_chunks-clause-shut
+returns-in-Err-make_chunks-clause-shut g c = λ of_text.
+    let disks = g.met.D.Disk g.world.𝓛 g.world.𝓜 g.world.𝓡 ((λ s x. x), (λ x. x), (λ x. x), λ x. x) in
+    closed_then g.D.Disk.state c.args.beat.now c.args.job.now c.args.graphs.now c.begin_devices.new.graphs c.make_chunks.new.graphs disks.lawful c.in_default-begin_devices.ensures.heads c.make_chunks.ensures.steps
 
 pub returns-in-Err-make_chunks-clause-cause : goal.returns-in-Err-make_chunks-clause-cause
 returns-in-Err-make_chunks-clause-cause g c =
@@ -56,6 +60,9 @@ returns-clause-graphs g c =
     let disks = g.met.D.Disk g.world.𝓛 g.world.𝓜 g.world.𝓡 ((λ s x. x), (λ x. x), (λ x. x), λ x. x) in
     shut_then g.D.Disk.state c.args.beat.now c.args.job.now c.args.graphs.now c.begin_devices.new.graphs c.flush.new.graphs disks.lawful c.begin_devices.ensures.graphs c.in_default-begin_devices.ensures.heads
     (each_then g.D.Disk.state IsClosedFront c.args.beat.now c.begin_devices.new.graphs c.make_chunks.new.graphs c.flush.new.graphs disks.lawful c.make_chunks.ensures.steps c.flush.ensures.steps)
+
+pub returns-clause-shut : goal.returns-clause-shut
+returns-clause-shut g c = rw c.stopped.ensures (λ of_text. absurd (not_of_text c.in-Err-flush.fault of_text))
 
 pub returns-clause-cause : goal.returns-clause-cause
 returns-clause-cause g c =

@@ -1,4 +1,4 @@
-use Rattle.std.proofs.Common.{◌≡◌, ℕ, ◌+◌, ◌-◌, ◌≤◌}
+use Rattle.std.proofs.Common.{◌≡◌, ◌+◌, ◌-◌, ◌≤◌}
 use Rattle.graph_model.specs.EdgeText.{text_limit}
 use Rattle.storage_engine.specs.Steps.{Step, Each, IsClosedFront}
 use Rattle.storage_engine.proofs.Texts.{HasTaken}

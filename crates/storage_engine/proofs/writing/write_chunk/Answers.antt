@@ -1,9 +1,7 @@
-use Rattle.std.proofs.Common.{◌≡◌, ℕ, ◌<◌, ◌≤◌, ◌∷◌, [], ◌++◌, List, length, get_or, arith, rules, refl}
+use Rattle.std.proofs.Common.{◌<◌, ◌≤◌, length, get_or, arith, rules}
 use Rattle.std.proofs.lemmas.Grind.{common_steps}
-use Rattle.graph_model.specs.declared.edge.Edge.{Edge}
-use Rattle.chunk_model.specs.Chunks.{Chunk}
-use Rattle.storage_engine.specs.Making.{HasMade, chunk_with}
-use Rattle.storage_engine.specs.Steps.{Step, IsClosedFront}
+use Rattle.storage_engine.specs.Making.{chunk_with}
+use Rattle.storage_engine.specs.Steps.{IsClosedFront}
 use Rattle.storage_engine.proofs.Every.{each_same, each_set}
 use Rattle.storage_engine.proofs.OneChunk.{append_step, made_more}
 use Rattle.storage_engine.proofs.writing.write_chunk.Goals as goal

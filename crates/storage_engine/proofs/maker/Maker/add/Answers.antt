@@ -1,11 +1,9 @@
-use Rattle.std.proofs.Common.{◌≡◌, ◌∙◌, ℕ, ◌+◌, ◌/◌, ◌<◌, ◌≤◌, ◌∷◌, [], ◌++◌, List, length, set, ap, sym, subst, arith, Result, Ok, Err, OnOk}
+use Rattle.std.proofs.Common.{◌≡◌, ◌∙◌, ◌/◌, ◌<◌, ◌∷◌, [], ◌++◌, length, ap, sym, subst, arith, Result, Ok, Err, OnOk}
 use Rattle.std.proofs.lemmas.List.{length-set}
-use Rattle.graph_model.specs.declared.edge.Edge.{Edge}
 use Rattle.graph_model.specs.Jobs.{parts_of}
 use Rattle.store_model.specs.Graphs.{home_of}
 use Rattle.chunk_model.specs.Chunks.{full_chunks}
-use Rattle.storage_engine.specs.Making.{IsMaking, HasMade, chunk_with}
-use Rattle.storage_engine.specs.Waiting.{no_edges, waiting, with_edge}
+use Rattle.storage_engine.specs.Waiting.{waiting}
 use Rattle.storage_engine.proofs.Adding.{home_is, home_below, kept_at, fills_at, held_at}
 use Rattle.storage_engine.proofs.Few.{room_while_given}
 use Rattle.storage_engine.proofs.maker.Maker.add.Goals as goal

@@ -1,4 +1,4 @@
-use Rattle.std.proofs.Common.{◌≡◌, ◌∙◌, ℕ, ◌+◌, ◌*◌, ◌<◌, ◌≤◌, ◌∷◌, [], ◌++◌, List, length, take, sym, subst, arith, rules}
+use Rattle.std.proofs.Common.{◌≡◌, ◌∙◌, ℕ, ◌*◌, ◌<◌, ◌≤◌, ◌∷◌, [], ◌++◌, List, length, take, sym, subst, arith, rules}
 use Rattle.std.proofs.lemmas.Grind.{common_steps}
 use Rattle.graph_model.specs.declared.edge.Edge.{Edge}
 use Rattle.std.proofs.lemmas.List.{length-append, length-take}
@@ -7,7 +7,7 @@ use Rattle.ports.specs.Disk.{DiskState}
 use Rattle.chunk_file.specs.declared.index.Place.{Place}
 use Rattle.seeded_place.specs.Placing.{Placing}
 use Rattle.storage_engine.specs.Making.{AreFew, HasRoomFor, IsMaking}
-use Rattle.storage_engine.specs.Steps.{Step, Each, OneRose, IsClosedFront}
+use Rattle.storage_engine.specs.Steps.{OneRose, IsClosedFront}
 use Rattle.storage_engine.proofs.Every.{each_then, one_rose_later}
 use Rattle.storage_engine.proofs.Flushing.{rose_cause, making_further}
 use Rattle.storage_engine.proofs.maker.Maker.add_all.Goals as goal

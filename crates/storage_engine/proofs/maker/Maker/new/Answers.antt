@@ -1,4 +1,4 @@
-use Rattle.std.proofs.Common.{◌≡◌, ◌∙◌, replicate, ap}
+use Rattle.std.proofs.Common.{◌∙◌, replicate, ap}
 use Rattle.storage_engine.specs.Waiting.{no_edges}
 use Rattle.storage_engine.proofs.Flushing.{making_begins}
 use Rattle.storage_engine.proofs.maker.Maker.new.Goals as goal

@@ -1,14 +1,13 @@
-use Rattle.std.proofs.Common.{◌≡◌, ◌∙◌, ℕ, ◌+◌, ◌<◌, ◌≤◌, ◌∷◌, [], ◌++◌, List, length, set, ap, sym, subst, arith, rules}
+use Rattle.std.proofs.Common.{◌≡◌, ◌∙◌, ◌<◌, ◌∷◌, [], ◌++◌, length, sym, subst, arith, rules}
 use Rattle.std.proofs.lemmas.Grind.{common_steps}
-use Rattle.graph_model.specs.declared.edge.Edge.{Edge}
 use Rattle.graph_model.specs.declared.job.Job.{Job}
 use Rattle.graph_model.specs.Jobs.{parts_of}
 use Rattle.chunk_model.specs.Chunks.{full_chunks}
 use Rattle.store_model.specs.Graphs.{home_of}
 use Rattle.std.proofs.lemmas.List.{append-nil}
-use Rattle.storage_engine.specs.Making.{AreFew, IsMaking, HasMade, chunk_with}
-use Rattle.storage_engine.specs.Steps.{Step, Each, OneRose, IsClosedFront}
-use Rattle.storage_engine.specs.Waiting.{waiting, no_edges}
+use Rattle.storage_engine.specs.Making.{AreFew, HasMade, chunk_with}
+use Rattle.storage_engine.specs.Steps.{OneRose, IsClosedFront}
+use Rattle.storage_engine.specs.Waiting.{waiting}
 use Rattle.storage_engine.proofs.Every.{each_then, one_rose_later}
 use Rattle.storage_engine.proofs.Flushing.{rests_below, rose_cause, rest_skipped, rest_written, rest_ends}
 use Rattle.storage_engine.proofs.Few.{room_while_written}

@@ -1,4 +1,4 @@
-use Rattle.std.proofs.Common.{◌≡◌, ℕ, List}
+use Rattle.std.proofs.Common.{◌≡◌, List}
 use Rattle.graph_model.specs.declared.edge.Edge.{Edge}
 use Rattle.storage_engine.specs.Making.{IsMaking}
 use Rattle.storage_engine.specs.Steps.{Step, Each, IsClosedFront}

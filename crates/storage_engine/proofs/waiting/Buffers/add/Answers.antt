@@ -1,10 +1,9 @@
-use Rattle.std.proofs.Common.{◌≡◌, ◌∙◌, ℕ, ◌<◌, ◌∷◌, [], ◌++◌, length, map, get_or, set, ap, sym, subst, arith}
+use Rattle.std.proofs.Common.{◌∙◌, ◌<◌, length, ap, arith}
 use Rattle.std.specs.Prelude.{Vec}
 use Rattle.std.specs.Global.{Global}
 use Rattle.std.proofs.lemmas.List.{length-map}
 use Rattle.graph_model.specs.declared.edge.Edge.{Edge}
-use Rattle.storage_engine.specs.Waiting.{no_edges, with_edge}
-use Rattle.storage_engine.specs.Inside.{lists_in}
+use Rattle.storage_engine.specs.Waiting.{with_edge}
 use Rattle.storage_engine.proofs.Lists.{same_lists, more_lists}
 use Rattle.storage_engine.proofs.waiting.Buffers.add.Goals as goal
 
