@@ -4,7 +4,7 @@ ghost use Rattle.graph_model.specs.Jobs.{IsWellFormedProgram};
 ghost use Rattle.round_loop.specs.Conditions.{MOST_ROUNDS};
 
 use crate::faults::{Called, Fault};
-use crate::graphs::{edges_of, text_of};
+use crate::graphs::{FAR, edges_of, text_of};
 use crate::jobs::{ON_TWO, job_of};
 use crate::made::make;
 use crate::runs::{expect_plain, go_on, run};
@@ -31,7 +31,7 @@ fn expect_fault<R: Threads + Abort + Sync, P: VertexProgram>(
     requires rounds { (last : ℕ) → (P.rules program.now).rounds ≡ Some last → last ≤ MOST_ROUNDS }
 {
     let job = job_of(named, row);
-    let edges = edges_of(rt, alloc, 7, 12);
+    let edges = edges_of(rt, alloc, FAR, 12);
     let text = text_of(rt, alloc, &edges);
     let Some(mut made) = make(rt, alloc, &job, &text, fault) else {
         return true;

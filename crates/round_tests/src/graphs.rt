@@ -10,6 +10,9 @@ use std::process::Abort;
 /// The vertices of each graph.
 pub(crate) const VERTICES: u32 = 9;
 
+/// The seed of a graph in which vertex 3 reaches most others, over several rounds.
+pub(crate) const FAR: u64 = 13;
+
 /// The next of numbers in no visible order, below a bound.
 fn draw(state: &mut u64, bound: u32) -> u32
     requires { 0 < bound }

@@ -4,7 +4,7 @@ ghost use Rattle.graph_model.specs.Jobs.{IsWellFormedProgram};
 ghost use Rattle.round_loop.specs.Conditions.{MOST_ROUNDS};
 
 use crate::faults::Fault;
-use crate::graphs::{edges_of, text_of};
+use crate::graphs::{FAR, edges_of, text_of};
 use crate::jobs::{ON_TWO, job_of};
 use crate::made::{Made, make};
 use crate::reading::bytes_of;
@@ -42,7 +42,7 @@ fn expect_meeting<R: Threads + Abort + Sync, P: VertexProgram>(
     requires rounds { (last : ℕ) → (P.rules program.now).rounds ≡ Some last → last ≤ MOST_ROUNDS }
 {
     let job = job_of(named, row);
-    let edges = edges_of(rt, alloc, 7, 20);
+    let edges = edges_of(rt, alloc, FAR, 20);
     let text = text_of(rt, alloc, &edges);
     let none = Fault::NONE;
     let mut one = make(rt, alloc, &job, &text, &none).expect(rt, "a store");
@@ -102,7 +102,7 @@ fn expect_going_on<R: Threads + Abort + Sync, P: VertexProgram>(
     requires rounds { (last : ℕ) → (P.rules program.now).rounds ≡ Some last → last ≤ MOST_ROUNDS }
 {
     let job = job_of(named, row);
-    let edges = edges_of(rt, alloc, 7, 20);
+    let edges = edges_of(rt, alloc, FAR, 20);
     let text = text_of(rt, alloc, &edges);
     let mut made = make(rt, alloc, &job, &text, &Fault::NONE).expect(rt, "a store");
     let first = Job { limit: 2, ..job };

@@ -10,7 +10,7 @@ ghost use Rattle.round_loop.specs.Starts.{split_for};
 ghost use Rattle.round_loop.specs.Conditions.{MOST_ROUNDS};
 
 use crate::faults::{Called, Fault};
-use crate::graphs::{edges_of, text_of};
+use crate::graphs::{FAR, edges_of, text_of};
 use crate::jobs::{ON_TWO, job_of};
 use crate::made::{Made, make, rows};
 use crate::reading::{read_values, split_of};
@@ -155,7 +155,7 @@ fn expect_faults<R: Threads + Abort + Sync>(
 ) {
     let job = job_of(Program::PageRank(1), row);
     let program = PageRank { rounds: 1 };
-    let edges = edges_of(rt, alloc, 7, EDGES);
+    let edges = edges_of(rt, alloc, FAR, EDGES);
     let made = made_to_round_one(rt, alloc, &program, &job, &edges);
     for number in 1..1000 {
         let fault = Fault {
