@@ -88,10 +88,11 @@ fn expect_faults<R: Threads + Abort + Sync, P: VertexProgram>(
     assert!(rt; false, "a run never ends");
 }
 
-/// The devices and meters of two engines.
-const PLACES: [(Called, u32, u32); 10] = [
-    (Called::Meter, 0, 0),
-    (Called::Meter, 1, 0),
+/// The meters of two workers.
+const METERS: [(Called, u32, u32); 2] = [(Called::Meter, 0, 0), (Called::Meter, 1, 0)];
+
+/// The devices of two engines.
+const DEVICES: [(Called, u32, u32); 8] = [
     (Called::Values, 0, 0),
     (Called::Values, 0, 1),
     (Called::Lane, 0, 0),
@@ -102,30 +103,46 @@ const PLACES: [(Called, u32, u32); 10] = [
     (Called::Spill, 0, 1),
 ];
 
-#[test]
-fn each_call_fails_once_where_changed_vertices_send(rt: HostRuntime) {
-    for place in PLACES {
-        expect_faults(
-            &rt,
-            rt.alloc(),
-            &Sssp { root: 3 },
-            Program::Sssp(3),
-            ON_TWO[1],
-            place,
-        );
+/// Fails each call at some places, in a run in which only vertices that changed send.
+fn expect_in_distances<R: Threads + Abort + Sync>(
+    rt: &R,
+    alloc: Global,
+    places: &[(Called, u32, u32)],
+) {
+    for place in places {
+        let program = Sssp { root: 3 };
+        expect_faults(rt, alloc, &program, Program::Sssp(3), ON_TWO[1], *place);
+    }
+}
+
+/// The same in a run in which all vertices send.
+fn expect_in_ranks<R: Threads + Abort + Sync>(
+    rt: &R,
+    alloc: Global,
+    places: &[(Called, u32, u32)],
+) {
+    for place in places {
+        let program = PageRank { rounds: 2 };
+        expect_faults(rt, alloc, &program, Program::PageRank(2), ON_TWO[2], *place);
     }
 }
 
 #[test]
+fn each_read_fails_once_where_changed_vertices_send(rt: HostRuntime) {
+    expect_in_distances(&rt, rt.alloc(), &METERS);
+}
+
+#[test]
+fn each_call_fails_once_where_changed_vertices_send(rt: HostRuntime) {
+    expect_in_distances(&rt, rt.alloc(), &DEVICES);
+}
+
+#[test]
+fn each_read_fails_once_where_all_vertices_send(rt: HostRuntime) {
+    expect_in_ranks(&rt, rt.alloc(), &METERS);
+}
+
+#[test]
 fn each_call_fails_once_where_all_vertices_send(rt: HostRuntime) {
-    for place in PLACES {
-        expect_faults(
-            &rt,
-            rt.alloc(),
-            &PageRank { rounds: 2 },
-            Program::PageRank(2),
-            ON_TWO[2],
-            place,
-        );
-    }
+    expect_in_ranks(&rt, rt.alloc(), &DEVICES);
 }

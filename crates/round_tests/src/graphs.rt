@@ -11,7 +11,7 @@ use std::process::Abort;
 pub(crate) const VERTICES: u32 = 9;
 
 /// The seed of a graph in which vertex 3 reaches most others, over several rounds.
-pub(crate) const FAR: u64 = 13;
+pub(crate) const FAR: u64 = 2;
 
 /// The next of numbers in no visible order, below a bound.
 fn draw(state: &mut u64, bound: u32) -> u32
