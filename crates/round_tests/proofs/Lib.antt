@@ -1,1 +1,2 @@
 mod Devices
+mod Stores
