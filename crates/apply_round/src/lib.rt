@@ -12,6 +12,3 @@ mod crew;
 
 pub use apply::{Applied, apply_all};
 pub use crew::ApplyCrew;
-
-#[cfg(test)]
-mod tests;

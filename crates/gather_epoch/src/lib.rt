@@ -13,6 +13,3 @@ mod moves;
 
 pub use crew::{GatherCrew, Gathered};
 pub use epoch::gather_all;
-
-#[cfg(test)]
-mod tests;

@@ -20,6 +20,3 @@ pub use crews::Crews;
 pub use first::make_first;
 pub use round::make_round;
 pub use run::{RoundEnd, Run};
-
-#[cfg(test)]
-mod tests;

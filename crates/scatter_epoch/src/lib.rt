@@ -15,6 +15,3 @@ mod moves;
 
 pub use crew::{ScatterCrew, Scattered};
 pub use epoch::scatter_all;
-
-#[cfg(test)]
-mod tests;
