@@ -108,12 +108,7 @@ fn devices(
 }
 
 /// A row of lanes for each worker.
-fn rows(
-    rt: &impl Abort,
-    alloc: Global,
-    engines: u32,
-    fault: &Fault,
-) -> Vec<Vec<MemDisk>>
+fn rows(rt: &impl Abort, alloc: Global, engines: u32, fault: &Fault) -> Vec<Vec<MemDisk>>
     ensures { AreRows disk_state engines 0 result.items }
 {
     let mut rows = Vec::new(alloc);
