@@ -1,0 +1,23 @@
+//! Tests of the top call on devices in memory: rows of words and texts with what must be printed, calls of a stream or of a
+//! meter that fail, chunks placed by many seeds, and a device that changes an edge between two rounds. It has no code of
+//! its own, promises nothing and touches disks in memory alone.
+#![tactic(auto)]
+
+#[cfg(test)]
+mod call;
+#[cfg(test)]
+mod changing;
+#[cfg(test)]
+mod changing_tests;
+#[cfg(test)]
+mod engine_tests;
+#[cfg(test)]
+mod faults;
+#[cfg(test)]
+mod jobs;
+#[cfg(test)]
+mod row_tests;
+#[cfg(test)]
+mod stream_tests;
+#[cfg(test)]
+mod world;
