@@ -48,12 +48,12 @@ sum_more f g q more same first (suc k) from below = elim (cases_eq q first) [
         sums_same f g (first + 1) k (λ p later inside. same p (λ equal. omega (arith, equal, here, later))),
       )
   | inr other ↦ omega (
-      arith,
-      sum_by-cons f first (range_with_len (first + 1) k),
-      sum_by-cons g first (range_with_len (first + 1) k),
-      same first (λ equal. other (sym equal)),
-      sum_more f g q more same (first + 1) k (omega (arith, other, from)) (omega (arith, below)),
-    )
+    arith,
+    sum_by-cons f first (range_with_len (first + 1) k),
+    sum_by-cons g first (range_with_len (first + 1) k),
+    same first (λ equal. other (sym equal)),
+    sum_more f g q more same (first + 1) k (omega (arith, other, from)) (omega (arith, below)),
+  )
 ]
 
 -- chunks, counted by partition

@@ -10,4 +10,6 @@
 
 mod laws;
 
-pub use laws::{accepted_text_is_storable, edges_stand, found_chunks_stand, index_is_few, places_are_counted};
+pub use laws::{
+    accepted_text_is_storable, edges_stand, found_chunks_stand, index_is_few, places_are_counted,
+};

@@ -29,7 +29,7 @@ use Rattle.run_model.specs.Epochs.{IsComplete, HasGone}
 use Rattle.run_model.specs.Runs.{MOST_BEATS}
 use Rattle.store_resume.specs.Resumes.{told_as, OfBytes, HasResumeCause, HasPrintedNothing, HasRefused, HasCauseOfJob, StandsAfterResume, GoesOnWell, IsResume}
 use Rattle.run_model.proofs.Going.{store_same}
-use Rattle.run_model.proofs.Untouched.{prints_none, gone_none, none_of_job}
+use Rattle.run_model.proofs.Untouched.{prints_none, gone_none, none_of_job, none_counted}
 use Rattle.store_resume.specs.Refusals.{refusal}
 
 -- some job, of which no epoch was opened
@@ -142,6 +142,7 @@ module _ {D M : Type 0} (state : D → DiskState) (lawful : (d : D) → IsDisk (
       settled = λ settles. inr is;
       gone = gone job ending none;
       are = λ start is_start. none_of_job job ending none edges start;
+      counts = none_counted job ending none edges;
       stands = λ settled. stands;
       kept = λ settled round kept b stopped_graphs stopped within stop_graphs stop_values.
           (round, omega arith, subst (λ images. IsEverywhere job edges images round) (sym (settled.1 stopped (idle_values b stopped stop_values))) kept.everywhere);

@@ -19,8 +19,10 @@ use Rattle.restart.specs.Resuming.{changed_of_all}
 use Rattle.round_loop.specs.Keeping.{IsTold}
 use Rattle.round_loop.specs.declared.run.Start.{Start}
 use Rattle.round_loop.specs.declared.run.Start.TheVariants.{Fresh, At}
+use Rattle.endings.specs.declared.ending.Report.{Report}
 use Rattle.endings.specs.declared.ending.Ending.{Ending}
 use Rattle.endings.specs.declared.ending.Ending.TheVariants.{Answered, Dropped, Usage, BadLine, DiskFault, RoundLimit, Memory, ReadFault, WriteFault, NotPrepared, EnginesDiffer, Damaged, TooLong, StoreHolds}
+use Rattle.run_model.specs.Telling.{CountsChunks}
 use Rattle.run_model.specs.Calls.{Call, AnyRose, IsBack}
 use Rattle.run_model.specs.Causes.{is_interrupted, IsAnswered, Comes}
 use Rattle.run_model.specs.Printing.{Prints, PrintsAnswer, PrintsFront}
@@ -114,6 +116,7 @@ module _ {D M : Type 0} (state : D → DiskState) (faults : M → ℕ) (call : C
       pub gone : HasGone job call.before.seat call.after.seat ending epochs
       -- from the start that the store has, which is only one
       pub are : (start : Start) → IsStartOf job edges values start → AreJobEpochs job edges start ending epochs
+      pub counts : (report : Report) → ending ≡ Answered report → CountsChunks job edges report
       pub stands : AreSettled graphs values → StandsAfterResume ending
       -- no stop loses the round that was found
       pub kept : AreSettled graphs values → (round : ℕ) → IsKeptRound job edges values round
