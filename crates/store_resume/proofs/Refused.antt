@@ -141,6 +141,7 @@ module _ {D M : Type 0} (state : D → DiskState) (lawful : (d : D) → IsDisk (
       unsettled = λ never. inr is;
       settled = λ settles. inr is;
       gone = gone job ending none;
+      found = λ complete. absurd (none complete);
       are = λ start is_start. none_of_job job ending none edges start;
       counts = none_counted job ending none edges;
       stands = λ settled. stands;
@@ -165,7 +166,9 @@ module _ {D M : Type 0} (state : D → DiskState) (lawful : (d : D) → IsDisk (
     printed = printed_of why;
     unread = unread;
     epochs = [];
-    gone = (some_job, gone some_job (refusal why) (not_complete why));
+    job = some_job;
+    gone = gone some_job (refusal why) (not_complete why);
+    limited = λ limit is. absurd (not_complete why (subst IsComplete (sym is) tt));
     back = back;
     graphs = ap (λ (store : Store D M). store.graphs) same_store;
     refused = refused_of why;

@@ -63,13 +63,13 @@ use Rattle.run_model.specs.Epochs.{HasGone, AreJobEpochs, IsReportOf}
 use Rattle.run_model.specs.Standing.{IsStored}
 use Rattle.run_model.specs.Stops.{AtEachStop}
 use Rattle.run_model.specs.Runs.{MOST_BEATS}
-use Rattle.store_resume.specs.Resumes.{told_as, IsStartOf, OfBytes, AreSettled, HasResumeCause, HasPrintedNothing, HasRefused, HasCauseOfJob, StandsAfterResume, GoesOnWell, IsResume}
+use Rattle.store_resume.specs.Resumes.{told_as, IsStartOf, OfBytes, AreSettled, HasResumeCause, HasPrintedNothing, HasRefused, HasCauseOfJob, StandsAfterResume, GoesOnWell, IsAtLimit, IsResume}
 use Rattle.run_model.proofs.Going.{devices_on, store_same, store_run, some_rose_later}
 use Rattle.run_model.proofs.Untouched.{prints_none}
 use Rattle.run_model.proofs.Counted.{same_report, counts_of_finish}
 use Rattle.store_resume.specs.Going.{GoesOn}
 use Rattle.store_resume.proofs.Refused.{refused_resume}
-use Rattle.store_resume.proofs.Starts.{opened_found, job_found, places_found, start_found, one_start, behind_kept, stood_from}
+use Rattle.store_resume.proofs.Starts.{opened_found, job_found, places_found, start_found, handed_in, one_start, behind_kept, stood_from}
 
 same_limit : (a b : ℕ) → RoundLimit a ≡ RoundLimit b → a ≡ b
 same_limit a b same = cc
@@ -280,6 +280,29 @@ module _ {D M : Type 0} (state : D → DiskState) (lawful : (d : D) → IsDisk (
   gone_of (finish.Stopped (fault.Damaged part engine place)) runs = record { through = runs.through; fronts = runs.fronts; whole = λ complete. absurd complete; reported = λ report is. absurd (cc) }
   gone_of (finish.Stopped fault.Memory) runs = record { through = runs.through; fronts = runs.fronts; whole = λ complete. absurd complete; reported = λ report is. absurd (cc) }
 
+  -- where it comes to the limit
+  at_limit : RunsTo (Err fault.RoundLimit) → IsAtLimit state faults call job job.limit
+  at_limit runs =
+      let at = runs.at_limit refl in
+      record {
+        of_job = refl;
+        round = at.0;
+        reached = at.1;
+        stands = elim at.2 [
+          | inl handed ↦ inl (λ graphs values tell_graphs tell_values others. handed_in graphs values found at.0 handed (recovered graphs values tell_graphs tell_values))
+          | inr made ↦ inr made.1
+        ];
+      }
+
+  limited_of : (ended : Finish) → RunsTo (rounds_of ended) → (limit : ℕ) → ending_of job (index_in found) ended ≡ RoundLimit limit → IsAtLimit state faults call job limit
+  limited_of (finish.Answered done) runs limit is = absurd (cc)
+  limited_of (finish.NotWritten done) runs limit is = absurd (cc)
+  limited_of (finish.NotRead done) runs limit is = absurd (cc)
+  limited_of (finish.Stopped fault.RoundLimit) runs limit is = subst (IsAtLimit state faults call job) (same_limit job.limit limit is) (at_limit runs)
+  limited_of (finish.Stopped fault.DiskFault) runs limit is = absurd (cc)
+  limited_of (finish.Stopped (fault.Damaged part engine place)) runs limit is = absurd (cc)
+  limited_of (finish.Stopped fault.Memory) runs limit is = absurd (cc)
+
   -- Whether or not it is the store of a job.
   resume_cause : (ended : Finish) → RunsTo (rounds_of ended) → HasFinishCause faults meters call.after.meters call.write_faults call.write_faults_after ended → HasResumeCause state faults call (ending_of job (index_in found) ended)
   resume_cause (finish.Answered done) runs caused = tt
@@ -318,6 +341,7 @@ module _ {D M : Type 0} (state : D → DiskState) (lawful : (d : D) → IsDisk (
       unsettled = unsettled_of edges graphs values storable tell_graphs tell_values others whole resumes ended runs;
       settled = settled_of edges graphs values storable tell_graphs tell_values others whole resumes ended runs;
       gone = gone_of ended runs;
+      found = λ _. (start, start_found job edges values found resumes);
       are = λ begins is_start. subst (λ (s : Start). AreJobEpochs job edges s (ending_of job (index_in found) ended) runs.epochs) (one_start job edges values start begins (start_found job edges values found resumes) is_start)
           (are_of edges graphs values storable tell_graphs tell_values others whole resumes ended runs);
       counts = counts_of_finish job edges (index_in found) formed (engine_counted job edges storable (index_in found) (places_found job edges values found resumes)) ended;
@@ -355,7 +379,9 @@ module _ {D M : Type 0} (state : D → DiskState) (lawful : (d : D) → IsDisk (
       printed = printed_of ended prints;
       unread = unread;
       epochs = runs.epochs;
-      gone = (job, gone_of ended runs);
+      job = job;
+      gone = gone_of ended runs;
+      limited = λ limit is. limited_of ended runs limit is;
       back = back (rounds_of ended) runs;
       graphs = runs.keeps.graphs;
       refused = refused_of ended runs;
