@@ -1,10 +1,11 @@
 -- The text that sums up the answer of a job.
-use Rattle.std.specs.Prelude.{ℕ, List, [], ◌∷◌, ◌++◌, length, codes, decimal}
+use Rattle.std.specs.Prelude.{ℕ, List, ◌++◌, length, codes}
 use Rattle.rmat_source.specs.Marks.{line_feeds, mark_of, capped}
+use Rattle.endings.specs.Endings.{with_number}
 
 -- the line of a name and a number
 abbrev pub number_line : List ℕ → ℕ → List ℕ
-number_line name number = name ++ decimal number ++ 10 ∷ []
+number_line name number = with_number name number (codes "\n")
 
 -- The graph, the last round, and of the answer its line feeds, its bytes and its mark. The two counts stand still at the
 -- last number of 64 bits.
