@@ -171,32 +171,32 @@ module _ {D M : Type 0} (state : D → DiskState) (faults : M → ℕ) (rules : 
       ends_at_limit open_ended some =
           let beyond : job.limit ≤ round = elim (ends.open_ended open_ended) [ inl beyond ↦ beyond | inr settled ↦ absurd (some settled.0 settled.1) ] in
           record {
-        store = come.store;
-        keeps = come.keeps;
-        meters = come.meters;
-        rose = λ is. absurd cc;
-        beats = (come.rises.0, omega (arith, come.rises.1));
-        epochs = epochs;
-        through = through;
-        fronts = come.fronts;
-        done = tt;
-        counts = tt;
-        limited = λ _. (come.whole is_done, open_ended, omega (arith, beyond, come.beat is_done));
-        at_limit = λ _. (round, beyond, come_to);
-        sound = λ records have told part engine place is. cc;
-        well = λ edges has told good.
-            let well : ComesWell state rules job start edges done round changed from new epochs = come.well edges has told good in
-            let found : IsUnsettled rules job.vertices edges job.limit × (round ≡ job.limit) = ends_unsettled rules job edges round changed well.due (well.counted is_done) open_ended ends some in
-            record {
-              are = well.are;
-              last = tt;
-              unsettled = λ _. (found.0, subst (λ k. length epochs ≡ epochs_to rules start k) found.1 (come.many is_done), subst (λ k. StandsAfter rules job edges state start k from.store.values.items new.store.values.items) found.1 (well.kept is_done));
-              settles = λ _. refl;
-              stored = stored_at edges well;
-              any_stop = well.any_stop;
-              since = well.since;
-            };
-      }
+            store = come.store;
+            keeps = come.keeps;
+            meters = come.meters;
+            rose = λ is. absurd cc;
+            beats = (come.rises.0, omega (arith, come.rises.1));
+            epochs = epochs;
+            through = through;
+            fronts = come.fronts;
+            done = tt;
+            counts = tt;
+            limited = λ _. (come.whole is_done, open_ended, omega (arith, beyond, come.beat is_done));
+            at_limit = λ _. (round, beyond, come_to);
+            sound = λ records have told part engine place is. cc;
+            well = λ edges has told good.
+                let well : ComesWell state rules job start edges done round changed from new epochs = come.well edges has told good in
+                let found : IsUnsettled rules job.vertices edges job.limit × (round ≡ job.limit) = ends_unsettled rules job edges round changed well.due (well.counted is_done) open_ended ends some in
+                record {
+                  are = well.are;
+                  last = tt;
+                  unsettled = λ _. (found.0, subst (λ k. length epochs ≡ epochs_to rules start k) found.1 (come.many is_done), subst (λ k. StandsAfter rules job edges state start k from.store.values.items new.store.values.items) found.1 (well.kept is_done));
+                  settles = λ _. refl;
+                  stored = stored_at edges well;
+                  any_stop = well.any_stop;
+                  since = well.since;
+                };
+          }
 
   -- before it has begun
   pub not_begun : ((d : D) → IsDisk (state d)) → (from : Moment D M) → IsStore state (split_for job) from.beat from.store → IsBetweenEpochs from.seat → HasRun state faults rules job start index from from (Err faulty.Memory)
