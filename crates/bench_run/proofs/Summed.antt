@@ -1,35 +1,50 @@
 -- A bench, by the run that was made of it and by how the ending of that is told on.
-use Rattle.std.proofs.Common.{◌≡◌, ◌⊎◌, inl, inr, ℕ, List, [], Some, refl, sym, subst, arith}
+use Rattle.std.proofs.Common.{◌≡◌, inl, inr, ℕ, List, [], Some, refl, sym, subst, arith}
 use Rattle.ports.specs.Disk.{DiskState}
 use Rattle.ports.specs.Faults.{Rose}
 use Rattle.graph_model.specs.declared.job.Job.{Job}
 use Rattle.graph_model.specs.Answer.{IsAnswer}
 use Rattle.rmat_source.specs.Rmat.{rmat_text}
-use Rattle.store_reader.specs.declared.store.Store.{Store}
 use Rattle.endings.specs.declared.ending.Report.{Report}
 use Rattle.endings.specs.declared.ending.Ending.{Ending}
-use Rattle.endings.specs.declared.ending.Ending.TheVariants.{Answered, Dropped, Usage, BadLine, DiskFault, RoundLimit, Memory, ReadFault, WriteFault, NotPrepared, EnginesDiffer, Damaged, TooLong, StoreHolds}
+use Rattle.endings.specs.declared.ending.Ending.TheVariants.{Answered, ReadFault, WriteFault}
 use Rattle.run_model.specs.Calls.{Call, Tells}
-use Rattle.run_model.specs.Causes.{IsAnswered}
 use Rattle.run_model.specs.Printing.{Prints}
 use Rattle.run_model.specs.Runs.{IsRun}
 use Rattle.bench_run.specs.Benches.{made_run, made_edges, summary, IsToldOn, IsSummary, HasPrintedSummary, IsBench}
 
 module _ {D M : Type 0} (state : D → DiskState) (faults : M → ℕ) (job : Job) (scale edges rng : ℕ) (call : Call D M) where
   -- an ending that is no answer is passed on
-  pub passed_on : (printed : List ℕ) (made : Ending) → (IsAnswered made → ⊥) → Prints call.out call.out_after [] → IsToldOn state faults job scale edges rng call printed made made
-  passed_on printed (Answered report) not_answered prints = absurd (not_answered tt)
+  pub passed_on : (printed : List ℕ) (made : Ending) → ((report : Report) → made ≡ Answered report → ⊥) → Prints call.out call.out_after [] → IsToldOn state faults job scale edges rng call printed made made
+  passed_on printed (Answered report) not_answered prints = absurd (not_answered report refl)
   passed_on printed made not_answered prints = record { same = refl; prints = prints }
 
+  -- the run as it is called, over a source and a sink that are so full
+  abbrev pub called : (text out left printed : List ℕ) → Call D M
+  called text out left printed = record call {
+    text = Some text;
+    text_after = Some left;
+    read_faults = 0;
+    read_faults_after = 0;
+    out = Some out;
+    out_after = Some printed;
+    write_faults = 0;
+    write_faults_after = 0;
+  }
+
   module _ (left printed : List ℕ) where
-    Made : Ending → Type 0
+    abbrev pub Made : Ending → Type 0
     Made made = IsRun state faults job (made_run state faults job scale edges rng call left printed) made
 
-    ToldOn : (made ending : Ending) → Type 0
+    abbrev pub ToldOn : (made ending : Ending) → Type 0
     ToldOn made ending = IsToldOn state faults job scale edges rng call printed made ending
 
-    Written : Ending → Type 0
+    abbrev pub Written : Ending → Type 0
     Written ending = HasPrintedSummary state faults job scale edges rng call ending
+
+    pub is_made : (text out : List ℕ) (made : Ending) → text ≡ rmat_text scale edges rng → out ≡ [] → IsRun state faults job (called text out left printed) made → Made made
+    is_made text out made text_is out_is run = subst (λ (t : List ℕ). IsRun state faults job (called t [] left printed) made) text_is
+        (subst (λ (o : List ℕ). IsRun state faults job (called text o left printed) made) out_is run)
 
     -- where the devices tell, the run has printed the answer
     summed : (report : Report) → Made (Answered report) → (graphs : List (List ℕ)) → Tells state call.before.store graphs
