@@ -58,7 +58,7 @@ use Rattle.endings.specs.declared.ending.Ending.TheVariants.{Answered, WriteFaul
 use Rattle.run_model.specs.Telling.{ending_of, report_of}
 use Rattle.run_model.specs.Calls.{Call, IsReady, IsBack}
 use Rattle.run_model.specs.Causes.{is_interrupted, IsAnswered, Comes}
-use Rattle.run_model.specs.Printing.{Prints, PrintsAnswer, PrintsFront as FrontOfAnswer}
+use Rattle.store_rounds.specs.Printed.{AnswerPrinted, FrontPrinted}
 use Rattle.run_model.specs.Epochs.{HasGone, AreJobEpochs, IsReportOf}
 use Rattle.run_model.specs.Standing.{IsStored}
 use Rattle.run_model.specs.Stops.{AtEachStop}
@@ -166,17 +166,15 @@ module _ {D M : Type 0} (state : D → DiskState) (lawful : (d : D) → IsDisk (
     within_limit : (kept changed : ℕ) → start ≡ At kept changed → NeverSettles job edges → kept ≤ job.limit
     within_limit kept changed is never = ((good_start state job edges call.before.store.values.items values found formed many_values tell_values resumes).reached kept changed is).within never
 
-    whole_printed : (done : Done) → RunsTo (Ok done) → PrintsAll state (split_for job) call.after.store.values.items (slot_of done.round) (shows_side job.program) call.out call.out_after → PrintsAnswer job edges call.out call.out_after
+    whole_printed : (done : Done) → RunsTo (Ok done) → PrintsAll state (split_for job) call.after.store.values.items (slot_of done.round) (shows_side job.program) call.out call.out_after → AnswerPrinted job edges call.out call.out_after
     whole_printed done runs prints =
         let good = runs_well (Ok done) runs in
-        let printed = whole_answer state job edges done.round call.after.store.values.items formed has_edges.within runs.store.values.all (λ e d below. (good.last.1 e d below).read) call.out call.out_after good.last.0 prints in
-        record { printed = printed.printed; prints = printed.prints; is_answer = printed.is_answer }
+        whole_answer state job edges done.round call.after.store.values.items formed has_edges.within runs.store.values.all (λ e d below. (good.last.1 e d below).read) call.out call.out_after good.last.0 prints
 
-    front_printed : (done : Done) → RunsTo (Ok done) → PrintsFront state (split_for job) call.after.store.values.items (slot_of done.round) (shows_side job.program) call.out call.out_after → FrontOfAnswer job edges call.out call.out_after
+    front_printed : (done : Done) → RunsTo (Ok done) → PrintsFront state (split_for job) call.after.store.values.items (slot_of done.round) (shows_side job.program) call.out call.out_after → FrontPrinted job edges call.out call.out_after
     front_printed done runs prints =
         let good = runs_well (Ok done) runs in
-        let printed = front_answer state job edges done.round call.after.store.values.items formed has_edges.within runs.store.values.all (λ e d below. (good.last.1 e d below).read) call.out call.out_after good.last.0 prints in
-        record { printed = printed.printed; rest = printed.rest; prints = printed.prints; is_answer = printed.is_answer }
+        front_answer state job edges done.round call.after.store.values.items formed has_edges.within runs.store.values.all (λ e d below. (good.last.1 e d below).read) call.out call.out_after good.last.0 prints
 
     damaged : (part : Part) (engine place : ℕ) → RunsTo (Err (fault.Damaged part engine place)) → ⊥
     damaged part engine place runs = not_damaged (Err (fault.Damaged part engine place)) runs part engine place refl graphs values tell_graphs tell_values others
