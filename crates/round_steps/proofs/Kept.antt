@@ -1,5 +1,5 @@
 -- A store that goes on, part by part.
-use Rattle.std.proofs.Common.{◌≡◌, ◌⊎◌, inl, inr, ℕ, ◌+◌, ◌<◌, ◌≤◌, Bool, true, false, Option, Some, List, length, map, refl, sym, ◌∙◌, ap, subst, arith, slice_index_or, vec_len}
+use Rattle.std.proofs.Common.{◌≡◌, inl, ℕ, ◌+◌, ◌<◌, ◌≤◌, Bool, true, false, List, length, map, refl, sym, ◌∙◌, ap, subst, arith, slice_index_or, vec_len}
 use Rattle.std.specs.Prelude.{Vec}
 use Rattle.std.specs.Global.{Global}
 use Rattle.std.specs.List.{All}
@@ -8,7 +8,6 @@ use Rattle.graph_model.specs.declared.job.Job.{Job}
 use Rattle.graph_model.specs.Programs.{Rules}
 use Rattle.partitioner.specs.declared.split.Split.{Split}
 use Rattle.ports.specs.Disk.{DiskState, IsDisk}
-use Rattle.ports.specs.Faults.{Rose}
 use Rattle.ports.proofs.Stops.{started}
 use Rattle.ports.proofs.Told.{as_told_same}
 use Rattle.graph_model.specs.Rounds.{values}
@@ -87,6 +86,7 @@ module _ {D : Type 0} (state : D → DiskState) (split : Split) (round : ℕ) wh
     bytes = λ e d below. as_told_same (SameOther (own_in split e) (slot_of round)) (λ c. refl) (state (slice_index_or devices e d)).bytes;
     other = λ e d below. started number (state (slice_index_or devices e d)) _ (lawful (slice_index_or devices e d)) (λ c image. record { image = c; is_image = image; other = refl; long = refl });
     settled = λ is_done. absurd (never is_done);
+    opened = λ is_done. absurd (never is_done);
   }
 
   pub others_from : (n b : ℕ) (done : Type 0) (mids olds news : List D) → n ≡ b + 1 → mids ≡ olds → KeepsOthers state split round n done mids news → KeepsOthers state split round (b + 1) done olds news
