@@ -3,7 +3,7 @@
 
 For each size of text, each of the five programs of the graph engine and each number of engines it runs both, checks that
 their answers are the same bytes, and takes the least wall time and the peak memory of several runs. It prints a table of
-ratios to standard output, in Markdown, and plots it to ratios.svg beside this file.
+ratios to standard output, in Markdown, below a line on the machine, and plots it to ratios.svg beside this file.
 
 The texts are those of the command `bench` (docs/FORMATS.md), made by rmat.c; the plain program is plain.c. All that is
 made but the plot stands in a temporary folder, which is removed. The program is built first, as ./chaos does it, where no
@@ -12,6 +12,7 @@ other is named.
 import argparse
 import filecmp
 import os
+import platform
 import shutil
 import subprocess
 import sys
@@ -30,6 +31,7 @@ JOBS = {
     "degrees": ["degrees"],
     "pagerank": ["pagerank", "10"],
 }
+HEADING = "## Figures\n"
 COLOURS = {"bfs": "#1b6ca8", "labels": "#c0392b", "sssp": "#2e8b57", "degrees": "#8e44ad", "pagerank": "#d68910"}
 
 
@@ -64,6 +66,7 @@ def words_of_call():
     parser.add_argument("--jobs", default=",".join(JOBS), help="the programs of the graph engine to run")
     parser.add_argument("--repeat", type=int, default=3, help="runs of each, of which the least counts (3)")
     parser.add_argument("--plot", type=Path, default=HERE / "ratios.svg", help="where the plot is written")
+    parser.add_argument("--document", type=Path, help="a document whose last part, Figures, is written anew")
     parser.add_argument("--folder", type=Path, help="where the temporary folder is made")
     return parser.parse_args()
 
@@ -158,6 +161,28 @@ def table(rows, engines):
     return "\n".join(lines)
 
 
+def said_by(*words):
+    """The first line that a command prints, or a question mark."""
+    ran = subprocess.run(words, capture_output=True, text=True, check=False)
+    return (ran.stdout.splitlines() or ["?"])[0].strip()
+
+
+def machine(folder):
+    """A line on the processors, the kernel, the files and the compiler."""
+    models = [line for line in Path("/proc/cpuinfo").read_text().splitlines() if line.startswith("model name")]
+    model = models[0].partition(":")[2].strip() if models else platform.machine()
+    files = said_by("stat", "--file-system", "--format", "%T", str(folder))
+    return f"{os.cpu_count()} processors ({model}), {platform.system()} {platform.release()}, files on {files}, {said_by('cc', '--version')}."
+
+
+def write_figures(document, figures):
+    """Puts the figures in the place of all that stands behind their heading."""
+    front, found, _ = document.read_text().partition(HEADING)
+    if not found:
+        sys.exit(f"{document} has no part {HEADING.strip()}")
+    document.write_text(f"{front}{HEADING}\n{figures}")
+
+
 class Panel:
     """A chart of one kind of ratio at one size of text: a line for each job over the numbers of engines."""
 
@@ -233,8 +258,11 @@ def main():
     engines = numbers(call.engines)
     with tempfile.TemporaryDirectory(dir=call.folder) as folder:
         rows = list(all_rows(call, Path(folder)))
-    print(table(rows, engines))
+        figures = f"{machine(folder)}\n\n{table(rows, engines)}\n"
+    print(figures, end="")
     call.plot.write_text(plot(rows, engines))
+    if call.document:
+        write_figures(call.document, figures)
 
 
 if __name__ == "__main__":
