@@ -10,6 +10,8 @@ mod changing;
 #[cfg(test)]
 mod changing_tests;
 #[cfg(test)]
+mod contents;
+#[cfg(test)]
 mod engine_tests;
 #[cfg(test)]
 mod faults;
@@ -18,6 +20,12 @@ mod jobs;
 #[cfg(test)]
 mod row_tests;
 #[cfg(test)]
+mod rows;
+#[cfg(test)]
+mod stores;
+#[cfg(test)]
 mod stream_tests;
+#[cfg(test)]
+mod turn_tests;
 #[cfg(test)]
 mod world;
