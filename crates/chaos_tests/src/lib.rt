@@ -14,6 +14,8 @@ mod contents;
 #[cfg(test)]
 mod engine_tests;
 #[cfg(test)]
+mod fault_tests;
+#[cfg(test)]
 mod faults;
 #[cfg(test)]
 mod jobs;
@@ -21,6 +23,10 @@ mod jobs;
 mod row_tests;
 #[cfg(test)]
 mod rows;
+#[cfg(test)]
+mod stop_tests;
+#[cfg(test)]
+mod stops;
 #[cfg(test)]
 mod stores;
 #[cfg(test)]
