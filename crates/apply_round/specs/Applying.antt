@@ -16,7 +16,7 @@ use Rattle.store_reader.specs.Reading.{own_in}
 use Rattle.store_reader.specs.declared.store.Outcome.{Outcome}
 use Rattle.store_reader.specs.declared.store.Outcome.TheVariants.{Done}
 use Rattle.checkpoint.specs.Applied.{applied_on, changed_by}
-use Rattle.checkpoint.specs.SlotStates.{SameOther}
+use Rattle.checkpoint.specs.SlotStates.{SameOther, IsOpenWith}
 use Rattle.checkpoint.specs.Storing.{KeepsOther, WhileStoring, EndsByCause, EngineStandsBefore}
 use Rattle.checkpoint.specs.Room.{IsRoomOf}
 use Rattle.checkpoint.specs.declared.apply.ApplyContext.{ApplyContext}
@@ -73,9 +73,10 @@ pub record Applies (t : RoundTerms) (engine : ℕ) (old new : DiskState) : Type 
   pub any_moment : (devices : List (List ℕ)) (before : List Value) → Tells t engine old devices before →
       Leaves t.number old new (WhileStoring (own_in t.split engine) (slot_of t.round) t.round (changed_by t.round before (applied_by t engine devices before)) (applied_by t engine devices before) old)
 
--- Where all is done: the engine's vertices have their values of the round, and so many changed.
+-- Where all is done: the round's slot is open, and the engine's vertices have their values of the round, of which so many changed.
 pub record Stores (t : RoundTerms) (engine changed : ℕ) (old new : DiskState) : Type 0 where
   pub settled : IsSettled new
+  pub opened : InEveryImage new (IsOpenWith (own_in t.split engine) (slot_of t.round) t.round changed)
   pub holds : (devices : List (List ℕ)) (before : List Value) → Tells t engine old devices before →
       InEveryImage new (HoldsRound (own_in t.split engine) (slot_of t.round) t.round changed (applied_by t engine devices before))
   pub counted : (devices : List (List ℕ)) (before : List Value) → Tells t engine old devices before →

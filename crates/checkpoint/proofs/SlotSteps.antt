@@ -15,7 +15,7 @@ use Rattle.store_model.proofs.SlotLemmas.{slot_within, slots_lie}
 use Rattle.store_reader.specs.declared.store.SlotHead.{SlotHead}
 use Rattle.store_reader.specs.Reading.{TellsHead}
 use Rattle.checkpoint.specs.Storing.{WhileStoring, KeepsOther}
-use Rattle.checkpoint.specs.SlotStates.{HasExactSize, SameOther, WhileClosing, WhileWriting, WhileOpening}
+use Rattle.checkpoint.specs.SlotStates.{HasExactSize, SameOther, WhileClosing, WhileWriting, WhileOpening, IsOpenWith}
 
 -- the byte at a place is the first of the bytes from it on
 byte_at : (at : ℕ) (bytes : List ℕ) → get_or (bytes_at at 1 bytes) 0 0 ≡ get_or bytes at 0
@@ -286,14 +286,22 @@ not_yet own slot round changed number values start new run =
     weaker number start new (WhileClosing own slot start) (WhileStoring own slot round changed values start) run
     (λ c while. record { image = while.image; is_image = while.is_image; long = while.long; other = while.other; itself = elim while.itself [ inl same ↦ inl same | inr closed ↦ inr (inl closed) ] })
 
--- once it is open
+-- once it is open, whatever it holds
+pub open_now : (own slot round changed number : ℕ) (mid new : DiskState) → IsDisk new → Leaves number mid new (WhileOpening own slot round changed mid) → InEveryImage new (IsOpen own slot) →
+    InEveryImage new (IsOpenWith own slot round changed)
+open_now own slot round changed number mid new law run opened c image =
+    let while : WhileOpening own slot round changed mid c = leaves_now number mid new (WhileOpening own slot round changed mid) law run c image in
+    record { is_open = opened c image; numbers = while.numbers (opened c image) }
+
+-- and with the values that were written
 pub holds_now : (own slot round changed number : ℕ) (values : List Value) (mid new : DiskState) → IsDisk mid → IsDisk new → Leaves number mid new (WhileOpening own slot round changed mid) → InEveryImage new (IsOpen own slot) →
     IfSome mid.bytes (λ read. slot_values own slot read ≡ values_bytes values) → InEveryImage new (HoldsRound own slot round changed values)
 holds_now own slot round changed number values mid new mid_law law run opened stand c image =
     let while : WhileOpening own slot round changed mid c = leaves_now number mid new (WhileOpening own slot round changed mid) law run c image in
+    let now : IsOpenWith own slot round changed c = open_now own slot round changed number mid new law run opened c image in
     record {
-      is_open = opened c image;
-      numbers = while.numbers (opened c image);
+      is_open = now.is_open;
+      numbers = now.numbers;
       values_are = told_values own slot values mid.bytes c (while.values (opened c image)) stand (mid_law.told while.image while.is_image);
     }
 

@@ -37,3 +37,8 @@ pub record WhileOpening (own slot round changed : ℕ) (start : DiskState) (byte
   pub other : SameOther own slot image bytes
   pub numbers : IsOpen own slot bytes → slot_numbers own slot bytes ≡ number_bytes round changed
   pub values : IsOpen own slot bytes → IfSome start.bytes (λ read. slot_values own slot bytes ≡ slot_values own slot read)
+
+-- A slot is open, with this round and so many changed values, whatever its values are.
+pub record IsOpenWith (own slot round changed : ℕ) (bytes : List ℕ) : Type 0 where
+  pub is_open : IsOpen own slot bytes
+  pub numbers : slot_numbers own slot bytes ≡ number_bytes round changed

@@ -16,7 +16,7 @@ ghost use Rattle.gather_laws.specs.Laws.{HaveRoom};
 ghost use Rattle.checkpoint.specs.Applied.{sums_in, values_in, applied, applied_on, changed_by};
 ghost use Rattle.checkpoint.specs.Room.{IsRoomOf};
 ghost use Rattle.checkpoint.specs.Storing.{KeepsOther, WhileStoring, EndsByCause, StandBefore, EngineStandsBefore, EngineBefore, StoresPartition, StoresFront};
-ghost use Rattle.checkpoint.specs.SlotStates.{HasExactSize, SameOther, WhileClosing, WhileWriting};
+ghost use Rattle.checkpoint.specs.SlotStates.{HasExactSize, SameOther, WhileClosing, WhileWriting, IsOpenWith};
 
 use crate::bytes::WIDTH;
 use crate::room::ApplyRoom;
@@ -79,6 +79,7 @@ pub fn apply_work<P: VertexProgram, D: Disk>(context: &ApplyContext<P, D>, desk:
         → InEveryImage (D.state desk.new.disk) (HoldsRound (own_in context.now.split.now desk.old.engine) (slot_of context.now.round) context.now.round desk.new.changed
         (applied_on (P.rules context.now.program.now) context.now.split.now desk.old.engine context.now.round context.now.replicas.now devices before))
         × (desk.new.changed ≡ changed_by context.now.round before (applied_on (P.rules context.now.program.now) context.now.split.now desk.old.engine context.now.round context.now.replicas.now devices before)) }
+    ensures opened { desk.new.outcome ≡ Outcome.Done → InEveryImage (D.state desk.new.disk) (IsOpenWith (own_in context.now.split.now desk.old.engine) (slot_of context.now.round) context.now.round desk.new.changed) }
     ensures settled { desk.new.outcome ≡ Outcome.Done → IsSettled (D.state desk.new.disk) }
     ensures bytes { AsTold (SameOther (own_in context.now.split.now desk.old.engine) (slot_of context.now.round)) (D.state desk.old.disk).bytes (D.state desk.new.disk).bytes }
     ensures size { (D.state desk.new.disk).size ≡ (D.state desk.old.disk).size }
@@ -136,6 +137,7 @@ fn apply_round<P: VertexProgram, D: Disk>(
         → InEveryImage (D.state disk.new) (HoldsRound (own_in context.now.split.now engine) (slot_of context.now.round) context.now.round changed
         (applied_on (P.rules context.now.program.now) context.now.split.now engine context.now.round context.now.replicas.now devices before))
         × (changed ≡ changed_by context.now.round before (applied_on (P.rules context.now.program.now) context.now.split.now engine context.now.round context.now.replicas.now devices before))) }
+    ensures opened { IfOk result (λ changed. InEveryImage (D.state disk.new) (IsOpenWith (own_in context.now.split.now engine) (slot_of context.now.round) context.now.round changed)) }
     ensures settled { OnOk result (IsSettled (D.state disk.new)) }
     ensures bytes { AsTold (SameOther (own_in context.now.split.now engine) (slot_of context.now.round)) (D.state disk.old).bytes (D.state disk.new).bytes }
     ensures size { (D.state disk.new).size ≡ (D.state disk.old).size }

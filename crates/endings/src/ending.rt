@@ -8,6 +8,10 @@ use store_reader::Part;
 pub struct Report {
     /// The last round.
     pub rounds: u64,
+    /// How many engines there were, 8 at most.
+    pub engines: u32,
+    /// How many edge chunks each engine had, that of engine 0 first. Nothing is told of places from `engines` on.
+    pub chunks: [u64; 8],
     /// How many chunks the workers took in this call.
     pub claims: u64,
     /// How often they were admitted as helpers in this call.

@@ -1,34 +1,37 @@
-//! The line that tells of an ending.
-ghost use Rattle.std.specs.Prelude.{◌≡◌, ◌+◌, ◌≤◌, ◌++◌, length, codes};
+//! The lines that tell of an ending.
+ghost use Rattle.std.specs.Prelude.{◌≡◌, ◌+◌, ◌*◌, ◌≤◌, ◌++◌, length, codes};
 ghost use Rattle.arrayvec.specs.ArrayVec.{array_vec_len};
 ghost use Rattle.endings.specs.Telling.{Says};
-ghost use Rattle.endings.specs.Endings.{message, name_of, with_number, with_numbers};
+ghost use Rattle.endings.specs.Endings.{engine_lines, message, name_of, report_lines, with_number, with_numbers};
 
-use crate::ending::Ending;
+use crate::ending::{Ending, Report};
 use arrayvec::ArrayVec;
 use itoa::Buffer;
 use ports::{Sink, write_all};
 use store_reader::Part;
 
-/// A message with its line feed. The longest is that of refused words.
-pub(crate) type MessageLine = ArrayVec<u8, 160>;
+/// A message with its line feeds. The longest is the report of eight engines: with 20 digits for each number its lines have
+/// 28 + 8 * 56 + 28 + 30 bytes.
+pub(crate) type MessageLine = ArrayVec<u8, 534>;
 
 const USAGE: &[u8] =
     b"usage: chaos_cli run|bench|resume|drop [bfs ROOT|labels|sssp ROOT|degrees|pagerank ROUNDS] [options]\n";
 
-/// Writes the message of an ending, or nothing where there is none. A sink that fails is let be: it changes no status.
-pub fn tell<E: Sink>(ending: &Ending, err: &mut E)
-    ensures { Says ending.now (E.written err.old) (E.written err.new) (E.faults err.old) (E.faults err.new) }
+/// Writes the message of an ending, or nothing where there is none: the lines of a report only if `reports`. A sink that
+/// fails is let be: it changes no status.
+pub fn tell<E: Sink>(ending: &Ending, reports: bool, err: &mut E)
+    ensures { Says reports ending.now (E.written err.old) (E.written err.new) (E.faults err.old) (E.faults err.new) }
 {
-    let _ = write_all(err, &message_line(ending));
+    let _ = write_all(err, &message_line(ending, reports));
 }
 
-/// The message of an ending, one line, or nothing where the answer was printed.
+/// The message of an ending.
 #[tactic(auto, unfolding(crate::specs::Endings::message))]
-fn message_line(ending: &Ending) -> MessageLine
-    ensures { result.items ≡ message ending.now }
+fn message_line(ending: &Ending, reports: bool) -> MessageLine
+    ensures { result.items ≡ message reports ending.now }
 {
     match *ending {
+        Ending::Answered(report) if reports => reported(&report),
         Ending::Answered(_) | Ending::Dropped => plain_line(b""),
         Ending::Usage => plain_line(USAGE),
         Ending::BadLine(line) => numbered_line(b"line ", line, b" is malformed\n"),
@@ -56,6 +59,32 @@ fn message_line(ending: &Ending) -> MessageLine
         } => damage_line(part, engine, place),
         Ending::TooLong(limit) => numbered_line(b"text is longer than ", limit, b" bytes\n"),
         Ending::StoreHolds => plain_line(b"store holds a job\n"),
+    }
+}
+
+/// The lines of a report.
+#[tactic(auto, unfolding(crate::specs::Endings::report_lines))]
+fn reported(report: &Report) -> MessageLine
+    ensures { result.items ≡ report_lines report.now }
+{
+    let mut line = MessageLine::new();
+    append_number(&mut line, b"rounds ", report.rounds, b"\n");
+    append_engines(&mut line, &report.chunks[..report.engines.min(8) as usize]);
+    append_number(&mut line, b"claims ", report.claims, b"\n");
+    append_number(&mut line, b"admitted ", report.admitted, b"\n");
+    line
+}
+
+/// Appends a line for each engine.
+fn append_engines(line: &mut MessageLine, chunks: &[u64])
+    requires few { length chunks.now ≤ 8 }
+    requires room { array_vec_len line.old ≤ 28 }
+    ensures items { line.new.items ≡ line.old.items ++ engine_lines 0 chunks.now }
+    ensures len { array_vec_len line.new ≤ array_vec_len line.old + 56 * length chunks.now }
+{
+    for (engine, &count) in chunks.iter().enumerate() {
+        append_number(line, b"engine ", engine as u64, b"");
+        append_number(line, b" chunks ", count, b"\n");
     }
 }
 
@@ -103,7 +132,7 @@ fn line_of_two(before: &[u8], first: u64, between: &[u8], second: u64, after: &[
 }
 
 fn append_number(line: &mut MessageLine, before: &[u8], number: u64, after: &[u8])
-    requires { array_vec_len line.old + length before.now + 20 + length after.now ≤ 160 }
+    requires { array_vec_len line.old + length before.now + 20 + length after.now ≤ 534 }
     ensures items { line.new.items ≡ line.old.items ++ with_number before.now number after.now }
     ensures len { array_vec_len line.new ≤ array_vec_len line.old + length before.now + 20 + length after.now }
 {
@@ -114,7 +143,7 @@ fn append_number(line: &mut MessageLine, before: &[u8], number: u64, after: &[u8
 }
 
 fn append(line: &mut MessageLine, text: &[u8])
-    requires { array_vec_len line.old + length text.now ≤ 160 }
+    requires { array_vec_len line.old + length text.now ≤ 534 }
     ensures items { line.new.items ≡ line.old.items ++ text.now }
     ensures len { array_vec_len line.new ≡ array_vec_len line.old + length text.now }
 {

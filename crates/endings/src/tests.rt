@@ -6,6 +6,17 @@ use std::process::Abort;
 use std::test::Fail;
 use store_reader::Part;
 
+const SMALL: Report = Report {
+    rounds: 3,
+    engines: 1,
+    chunks: [1, 0, 0, 0, 0, 0, 0, 0],
+    claims: 5,
+    admitted: 0,
+};
+
+const LARGE: &[u8] =
+    b"rounds 18446744073709551615\nengine 0 chunks 18446744073709551615\nengine 1 chunks 18446744073709551615\nengine 2 chunks 18446744073709551615\nengine 3 chunks 18446744073709551615\nengine 4 chunks 18446744073709551615\nengine 5 chunks 18446744073709551615\nengine 6 chunks 18446744073709551615\nengine 7 chunks 18446744073709551615\nclaims 18446744073709551615\nadmitted 18446744073709551615\n";
+
 fn said(
     rt: &impl Abort,
     alloc: Global,
@@ -13,10 +24,21 @@ fn said(
     status: u8,
     message: &[u8],
 ) -> Result<(), Fail> {
-    let mut err = MemSink::new(alloc, 7, &[])?;
-    tell(&ending, &mut err);
-    assert!(rt; err.written() == message, "{ending:?}");
+    told(rt, alloc, ending, false, message)?;
     assert_eq!(rt; ending.status(), status);
+    Ok(())
+}
+
+fn told(
+    rt: &impl Abort,
+    alloc: Global,
+    ending: Ending,
+    reports: bool,
+    message: &[u8],
+) -> Result<(), Fail> {
+    let mut err = MemSink::new(alloc, 7, &[])?;
+    tell(&ending, reports, &mut err);
+    assert!(rt; err.written() == message, "{ending:?}");
     Ok(())
 }
 
@@ -30,13 +52,8 @@ fn damaged(part: Part) -> Ending {
 
 #[test]
 fn each_ending_has_its_line(rt: HostRuntime) -> Result<(), Fail> {
-    let report = Report {
-        rounds: 3,
-        claims: 5,
-        admitted: 0,
-    };
     let alloc = rt.alloc();
-    said(&rt, alloc, Ending::Answered(report), 0, b"")?;
+    said(&rt, alloc, Ending::Answered(SMALL), 0, b"")?;
     said(&rt, alloc, Ending::Dropped, 0, b"")?;
     said(
         &rt,
@@ -100,4 +117,27 @@ fn each_ending_of_a_store_has_its_line(rt: HostRuntime) -> Result<(), Fail> {
         b"text is longer than 8 bytes\n",
     )?;
     said(&rt, alloc, Ending::StoreHolds, 12, b"store holds a job\n")
+}
+
+#[test]
+fn a_report_has_its_lines(rt: HostRuntime) -> Result<(), Fail> {
+    let alloc = rt.alloc();
+    let small = b"rounds 3\nengine 0 chunks 1\nclaims 5\nadmitted 0\n";
+    told(&rt, alloc, Ending::Answered(SMALL), true, small)?;
+    told(&rt, alloc, Ending::Dropped, true, b"")?;
+    told(
+        &rt,
+        alloc,
+        Ending::BadLine(2),
+        true,
+        b"line 2 is malformed\n",
+    )?;
+    let large = Report {
+        rounds: u64::MAX,
+        engines: 8,
+        chunks: [u64::MAX; 8],
+        claims: u64::MAX,
+        admitted: u64::MAX,
+    };
+    told(&rt, alloc, Ending::Answered(large), true, LARGE)
 }

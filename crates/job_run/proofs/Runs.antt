@@ -29,6 +29,7 @@ module _ {D M : Type 0} (state : D → DiskState) (faults : M → ℕ) (rules : 
     done = run.done;
     counts = run.counts;
     limited = λ is. absurd cc;
+    at_limit = λ is. absurd cc;
     sound = run.sound;
     well = λ edges has told good.
         let well = run.well edges has told good in

@@ -137,7 +137,7 @@ fn run_program<R: Threads + Sync, P: VertexProgram, K: Sink, D: Disk, G: Gate + 
 }
 
 /// The split of a job.
-pub(crate) fn split_of(job: &Job) -> Split
+pub fn split_of(job: &Job) -> Split
     requires { IsWellFormedJob job.now }
     ensures split { IsSplit result }
     ensures same { result ≡ split_for job.now }

@@ -45,7 +45,7 @@ split_is job split of_job =
     let with_span : ℕ → Split = λ v. record { vertices = job.vertices; engines = job.engines; parts = parts_of job; span = v } in
     ap with_vertices of_job.vertices ∙ ap with_engines of_job.engines ∙ ap with_parts of_job.parts ∙ ap with_span of_job.span
 
-made_before_sent : (start : Start) → first_made start ≤ first_sent start
+pub made_before_sent : (start : Start) → first_made start ≤ first_sent start
 made_before_sent Fresh = omega arith
 made_before_sent (At round changed) = omega arith
 
@@ -203,5 +203,6 @@ module _ {D M : Type 0} (state : D → DiskState) (faults : M → ℕ) (laws : (
         later = omega (arith, come.beat tt, step.beat.0);
         sooner = omega (arith, come.beat tt, step.beat.1);
         beat = λ done. omega (arith, come.beat tt, step.through done);
+        opened = λ done made. step.keeps.values.opened done;
         well = λ edges has told good. comes_well edges has told (come.well edges has told good) goes;
       }

@@ -61,6 +61,7 @@ module _ {D M : Type 0} (state : D → DiskState) (faults : M → ℕ) (laws : (
     later = omega arith;
     sooner = omega arith;
     beat = λ _. omega arith;
+    opened = λ _ made. absurd (omega (arith, made));
     well = λ edges has told good. record {
       are = tt;
       kept = λ _ e d within. record { read = good.read round changed refl e d within; images = λ had. had (omega arith) };
@@ -137,5 +138,6 @@ module _ {D M : Type 0} (state : D → DiskState) (faults : M → ℕ) (laws : (
       later = omega (arith, first.beat.0);
       sooner = omega (arith, first.beat.1);
       beat = λ done. omega (arith, first.through done);
+      opened = λ done made. first.keeps.values.opened done;
       well = λ edges has told good. first_well edges has told;
     }

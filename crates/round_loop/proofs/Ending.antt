@@ -35,11 +35,12 @@ use Rattle.round_loop.specs.Opening.{AreEpochsOf}
 use Rattle.round_loop.specs.Kept.{StandsAfter}
 use Rattle.round_loop.specs.Keeping.{IsTold, Moment, moment}
 use Rattle.round_loop.specs.Coming.{EndsAt, ComesWell, HasCome}
-use Rattle.round_loop.specs.Run.{HasRun}
+use Rattle.round_loop.specs.Run.{HasComeTo, HasRun}
 use Rattle.round_loop.proofs.Reaching.{ends_at_last, ends_unsettled}
 use Rattle.round_loop.proofs.Stopping.{none_yet}
 use Rattle.round_loop.proofs.Keeping.{kept_same, meters_same}
 use Rattle.round_loop.proofs.Epochs.{through_none}
+use Rattle.round_loop.proofs.Advancing.{made_before_sent}
 
 -- Outcomes as faults.
 disk_fault_of : (outcome : Outcome) (fault : RoundFault) → IsFaultOf outcome fault → fault ≡ faulty.DiskFault → outcome ≡ outcomes.DiskFault
@@ -112,6 +113,7 @@ module _ {D M : Type 0} (state : D → DiskState) (faults : M → ℕ) (rules : 
       done = tt;
       counts = tt;
       limited = λ is. absurd (no_limit outcome fault of (err_is fault faulty.RoundLimit is));
+      at_limit = λ is. absurd (no_limit outcome fault of (err_is fault faulty.RoundLimit is));
       sound = λ records have told part engine place is. not_damaged outcome fault of (sound records have told) part engine place (err_is fault (faulty.Damaged part engine place) is);
       well = λ edges has told good.
           let well : ComesWell state rules job start edges done round changed from new epochs = come.well edges has told good in
@@ -141,6 +143,7 @@ module _ {D M : Type 0} (state : D → DiskState) (faults : M → ℕ) (rules : 
         done = (come.whole is_done, come.many is_done, come.beat is_done);
         counts = (come.through.claims_are, come.through.admissions_are);
         limited = λ is. absurd cc;
+        at_limit = λ is. absurd cc;
         sound = λ records have told part engine place is. cc;
         well = λ edges has told good.
             let well : ComesWell state rules job start edges done round changed from new epochs = come.well edges has told good in
@@ -156,34 +159,44 @@ module _ {D M : Type 0} (state : D → DiskState) (faults : M → ℕ) (rules : 
             };
       }
 
+      -- the round was handed in or made
+      come_to : HasComeTo state faults rules job start index round new
+      come_to = elim (cases_lt round (first_made start)) [
+        | inl handed ↦ inl (omega (arith, handed, made_before_sent start, come.since))
+        | inr made ↦ inr (made, come.opened is_done made)
+      ]
+
       -- at the limit
       pub ends_at_limit : rules.rounds ≡ None → (1 ≤ round → changed ≢ 0) → HasRun state faults rules job start index from new (Err faulty.RoundLimit)
-      ends_at_limit open_ended some = record {
-        store = come.store;
-        keeps = come.keeps;
-        meters = come.meters;
-        rose = λ is. absurd cc;
-        beats = (come.rises.0, omega (arith, come.rises.1));
-        epochs = epochs;
-        through = through;
-        fronts = come.fronts;
-        done = tt;
-        counts = tt;
-        limited = λ _. (come.whole is_done, open_ended, elim (ends.open_ended open_ended) [ inl beyond ↦ omega (arith, beyond, come.beat is_done) | inr settled ↦ absurd (some settled.0 settled.1) ]);
-        sound = λ records have told part engine place is. cc;
-        well = λ edges has told good.
-            let well : ComesWell state rules job start edges done round changed from new epochs = come.well edges has told good in
-            let found : IsUnsettled rules job.vertices edges job.limit × (round ≡ job.limit) = ends_unsettled rules job edges round changed well.due (well.counted is_done) open_ended ends some in
-            record {
-              are = well.are;
-              last = tt;
-              unsettled = λ _. (found.0, subst (λ k. length epochs ≡ epochs_to rules start k) found.1 (come.many is_done), subst (λ k. StandsAfter rules job edges state start k from.store.values.items new.store.values.items) found.1 (well.kept is_done));
-              settles = λ _. refl;
-              stored = stored_at edges well;
-              any_stop = well.any_stop;
-              since = well.since;
-            };
-      }
+      ends_at_limit open_ended some =
+          let beyond : job.limit ≤ round = elim (ends.open_ended open_ended) [ inl beyond ↦ beyond | inr settled ↦ absurd (some settled.0 settled.1) ] in
+          record {
+            store = come.store;
+            keeps = come.keeps;
+            meters = come.meters;
+            rose = λ is. absurd cc;
+            beats = (come.rises.0, omega (arith, come.rises.1));
+            epochs = epochs;
+            through = through;
+            fronts = come.fronts;
+            done = tt;
+            counts = tt;
+            limited = λ _. (come.whole is_done, open_ended, omega (arith, beyond, come.beat is_done));
+            at_limit = λ _. (round, beyond, come_to);
+            sound = λ records have told part engine place is. cc;
+            well = λ edges has told good.
+                let well : ComesWell state rules job start edges done round changed from new epochs = come.well edges has told good in
+                let found : IsUnsettled rules job.vertices edges job.limit × (round ≡ job.limit) = ends_unsettled rules job edges round changed well.due (well.counted is_done) open_ended ends some in
+                record {
+                  are = well.are;
+                  last = tt;
+                  unsettled = λ _. (found.0, subst (λ k. length epochs ≡ epochs_to rules start k) found.1 (come.many is_done), subst (λ k. StandsAfter rules job edges state start k from.store.values.items new.store.values.items) found.1 (well.kept is_done));
+                  settles = λ _. refl;
+                  stored = stored_at edges well;
+                  any_stop = well.any_stop;
+                  since = well.since;
+                };
+          }
 
   -- before it has begun
   pub not_begun : ((d : D) → IsDisk (state d)) → (from : Moment D M) → IsStore state (split_for job) from.beat from.store → IsBetweenEpochs from.seat → HasRun state faults rules job start index from from (Err faulty.Memory)
@@ -199,6 +212,7 @@ module _ {D M : Type 0} (state : D → DiskState) (faults : M → ℕ) (rules : 
     done = tt;
     counts = tt;
     limited = λ is. absurd cc;
+    at_limit = λ is. absurd cc;
     sound = λ records have told part engine place is. cc;
     well = λ edges has told good. record {
       are = no_epochs rules job edges (counts_first rules start) (first_sent start);
@@ -262,6 +276,7 @@ module _ {D M : Type 0} (state : D → DiskState) (faults : M → ℕ) (rules : 
       done = run.done;
       counts = run.counts;
       limited = run.limited;
+      at_limit = run.at_limit;
       sound = run.sound;
       well = λ edges has told good.
           let well = run.well edges has told good in

@@ -63,6 +63,7 @@ module _ {D M : Type 0} (state : D → DiskState) (faults : M → ℕ) (rules : 
     later = come.later;
     sooner = come.sooner;
     beat = λ _. come.beat is;
+    opened = λ _. come.opened is;
     well = λ edges has told good. done_well start edges done round changed from new epochs is (come.well edges has told good);
   }
 

@@ -10,7 +10,7 @@ use Rattle.chunk_object.specs.Epochs.{Epoch}
 use Rattle.chunk_file.specs.declared.index.Place.{Place}
 use Rattle.phase_model.specs.JobTerms.{terms_of}
 use Rattle.round_steps.specs.Epochs.{IsWhole, WholeButLast, HasFewChunks, GoesThrough}
-use Rattle.round_steps.specs.Going.{IsStore, MetersGoOn}
+use Rattle.round_steps.specs.Going.{IsStore, MetersGoOn, IsOpenEverywhere}
 use Rattle.round_steps.specs.Standing.{HasEdges}
 use Rattle.round_loop.specs.declared.run.Start.{Start}
 use Rattle.round_loop.specs.declared.course.Progress.{Progress}
@@ -67,6 +67,8 @@ module _ {D M : Type 0} (state : D → DiskState) (faults : M → ℕ) (rules : 
     pub later : old.beat + round ≤ new.beat + first_made start
     pub sooner : new.beat + first_made start ≤ old.beat + 1 + round
     pub beat : done → new.beat + first_made start ≡ old.beat + 1 + round
+    -- a round that was made stands in an open slot of every engine, wherever it was made from
+    pub opened : done → first_made start ≤ round → IsOpenEverywhere state (split_for job) round new.store.values.items
     pub well : (edges : List Edge) → HasEdges state job (split_for job) index old.store.graphs.items edges → IsTold state old.store → IsGoodStart rules job edges state start old.store.values.items
         → ComesWell state rules job start edges done round changed old new epochs
 

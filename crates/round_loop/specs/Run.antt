@@ -1,5 +1,5 @@
 -- What a run is seen to do.
-use Rattle.std.specs.Prelude.{◌≡◌, ℕ, ◌+◌, ◌-◌, ◌<◌, ◌≤◌, None, List, length, slice_index_or, flat_map, Result, IfOk, IsErr, IsErrOf}
+use Rattle.std.specs.Prelude.{◌≡◌, ◌⊎◌, ℕ, ◌+◌, ◌-◌, ◌<◌, ◌≤◌, None, List, length, slice_index_or, flat_map, Result, IfOk, IsErr, IsErrOf}
 use Rattle.std.specs.List.{All}
 use Rattle.graph_model.specs.declared.edge.Edge.{Edge}
 use Rattle.graph_model.specs.declared.job.Job.{Job}
@@ -13,7 +13,7 @@ use Rattle.phase_model.specs.JobTerms.{terms_of}
 use Rattle.phase_model.specs.Taken.{claims, admissions}
 use Rattle.store_reader.specs.declared.store.Part.{Part}
 use Rattle.round_steps.specs.Epochs.{IsWhole, WholeButLast, GoesThrough}
-use Rattle.round_steps.specs.Going.{IsStore, MetersGoOn, SomeRose}
+use Rattle.round_steps.specs.Going.{IsStore, MetersGoOn, SomeRose, IsOpenEverywhere}
 use Rattle.round_steps.specs.Standing.{HaveEdges, HasEdges}
 use Rattle.round_loop.specs.declared.run.Start.{Start}
 use Rattle.round_loop.specs.declared.run.Done.{Done}
@@ -43,6 +43,10 @@ module _ {D M : Type 0} (state : D → DiskState) (rules : Rules) (job : Job) (s
         → LeftSince rules job edges old.beat (first_made start) new.beat e (state (slice_index_or old.store.values.items e d)) (state (slice_index_or new.store.values.items e d))
 
 module _ {D M : Type 0} (state : D → DiskState) (faults : M → ℕ) (rules : Rules) (job : Job) (start : Start) (index : List (List Place)) where
+  -- the round was handed in, or it was made and stands in an open slot of every engine
+  abbrev pub HasComeTo : (round : ℕ) → (new : Moment D M) → Type 0
+  HasComeTo round new = (round + 1 ≡ first_made start) ⊎ ((first_made start ≤ round) × IsOpenEverywhere state (split_for job) round new.store.values.items)
+
   -- **A run, whatever it is handed and whatever it answers**
   pub record HasRun (old new : Moment D M) (result : Result Done RoundFault) : Type 0 where
     -- all is in its place
@@ -60,6 +64,7 @@ module _ {D M : Type 0} (state : D → DiskState) (faults : M → ℕ) (rules : 
     pub counts : IfOk result (λ done. (done.claims ≡ claims (flat_map all_calls epochs)) × (done.admitted ≡ admissions (flat_map all_calls epochs)))
     -- a run that came to the limit: the last round that was made or handed in is not below it
     pub limited : IsErrOf result RoundLimit → All (IsWhole (terms_of job)) epochs × (rules.rounds ≡ None) × (old.beat + 1 + job.limit ≤ new.beat + first_made start)
+    pub at_limit : IsErrOf result RoundLimit → (round : ℕ) × (job.limit ≤ round) × HasComeTo round new
     -- devices that tell are not damaged
     pub sound : (records : ℕ → ℕ → List Edge) → HaveEdges state job (split_for job) index old.store.graphs.items records → IsTold state old.store
         → (part : Part) (engine place : ℕ) → ¬ (IsErrOf result (Damaged part engine place))

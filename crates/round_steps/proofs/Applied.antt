@@ -77,6 +77,7 @@ module _ {D : Type 0} (state : D → DiskState) (t : RoundTerms) (olds news : Li
     bytes = λ e d below. (applies e d below).bytes;
     other = λ e d below. (applies e d below).other;
     settled = λ is_done e d below. ((stores is_done).each e d below).settled;
+    opened = λ is_done e d below. let all = stores is_done in (slice_index all.counts e, (all.each e d (omega (arith, below))).opened);
   }
 
   -- **The round that is made of the sums is the round of the definition.**

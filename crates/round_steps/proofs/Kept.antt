@@ -87,6 +87,7 @@ module _ {D : Type 0} (state : D → DiskState) (split : Split) (round : ℕ) wh
     bytes = λ e d below. as_told_same (SameOther (own_in split e) (slot_of round)) (λ c. refl) (state (slice_index_or devices e d)).bytes;
     other = λ e d below. started number (state (slice_index_or devices e d)) _ (lawful (slice_index_or devices e d)) (λ c image. record { image = c; is_image = image; other = refl; long = refl });
     settled = λ is_done. absurd (never is_done);
+    opened = λ is_done. absurd (never is_done);
   }
 
   pub others_from : (n b : ℕ) (done : Type 0) (mids olds news : List D) → n ≡ b + 1 → mids ≡ olds → KeepsOthers state split round n done mids news → KeepsOthers state split round (b + 1) done olds news

@@ -1,7 +1,7 @@
 -- What every answer says of a store, of the meters, and of what they count.
 use Rattle.std.specs.Prelude.{◌≡◌, ◌⊎◌, ℕ, ◌<◌, ◌≤◌, List, Some, length, slice_index_or, Vec, vec_len}
 use Rattle.std.specs.Global.{Global}
-use Rattle.ports.specs.Disk.{DiskState, IsSettled}
+use Rattle.ports.specs.Disk.{DiskState, IsSettled, InEveryImage}
 use Rattle.ports.specs.Faults.{Rose}
 use Rattle.ports.specs.Stops.{Leaves}
 use Rattle.ports.specs.Told.{AsTold}
@@ -10,7 +10,7 @@ use Rattle.store_model.specs.Slots.{device_size, slot_of}
 use Rattle.store_reader.specs.Reading.{own_in}
 use Rattle.store_reader.specs.declared.store.Store.{Store}
 use Rattle.update_lanes.specs.Lanes.{GoOn, OneRose}
-use Rattle.checkpoint.specs.SlotStates.{SameOther}
+use Rattle.checkpoint.specs.SlotStates.{SameOther, IsOpenWith}
 use Rattle.checkpoint.specs.Storing.{KeepsOther}
 
 -- counts that never fall
@@ -49,13 +49,19 @@ module _ {D : Type 0} (state : D → DiskState) where
   abbrev pub RowRose : (old new : List (Vec D Global)) → Type 0
   RowRose old new = (w : ℕ) × (w < length old) × ((row : Vec D Global) → OneRose state (slice_index_or old w row).items (slice_index_or new w row).items)
 
-  -- The values devices, while a round is stored, told or not: each has its size, and a stop leaves its other slot as an image of the start has it
+  -- the round stands in an open slot of the values device of each engine, in every image, whatever its values are
+  abbrev pub IsOpenEverywhere : Split → (round : ℕ) → List D → Type 0
+  IsOpenEverywhere split round devices = (e : ℕ) (d : D) → e < length devices
+      → (changed : ℕ) × InEveryImage (state (slice_index_or devices e d)) (IsOpenWith (own_in split e) (slot_of round) round changed)
+
+  -- The values devices, while a round is stored, told or not: each has its size, and a stop leaves its other slot as an image of the start has it; when all is done the round stands in an open slot of each
   pub record KeepsOthers (split : Split) (round number : ℕ) (done : Type 0) (old new : List D) : Type 0 where
     pub going : GoOn state number old new
     pub sizes : (e : ℕ) (d : D) → e < length old → (state (slice_index_or new e d)).size ≡ (state (slice_index_or old e d)).size
     pub bytes : (e : ℕ) (d : D) → e < length old → AsTold (SameOther (own_in split e) (slot_of round)) (state (slice_index_or old e d)).bytes (state (slice_index_or new e d)).bytes
     pub other : (e : ℕ) (d : D) → e < length old → Leaves number (state (slice_index_or old e d)) (state (slice_index_or new e d)) (KeepsOther (own_in split e) (slot_of round) (state (slice_index_or old e d)))
     pub settled : done → (e : ℕ) (d : D) → e < length old → IsSettled (state (slice_index_or new e d))
+    pub opened : done → IsOpenEverywhere split round new
 
 module _ {D M : Type 0} (state : D → DiskState) where
   -- **A store whose devices are all there**, for so many engines, with values devices of exact size, and with no call under a beat later than this one

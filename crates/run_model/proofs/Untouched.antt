@@ -19,6 +19,7 @@ use Rattle.endings.specs.declared.ending.Ending.{Ending}
 use Rattle.endings.specs.declared.ending.Ending.TheVariants.{Answered}
 use Rattle.run_model.specs.Calls.{Call}
 use Rattle.run_model.specs.Printing.{Prints, PrintsNothing}
+use Rattle.run_model.specs.Telling.{CountsChunks}
 use Rattle.run_model.specs.Epochs.{IsComplete, HasGone, AreJobEpochs}
 
 -- nothing was printed
@@ -64,3 +65,6 @@ module _ (job : Job) (ending : Ending) (not_complete : IsComplete ending → ⊥
     all_written = λ is last is_last. absurd (not_complete (subst IsComplete (sym is) tt));
     all_within = λ limit is. absurd (not_complete (subst IsComplete (sym is) tt));
   }
+
+  pub none_counted : (graph : List Edge) (report : Report) → ending ≡ Answered report → CountsChunks job graph report
+  none_counted graph report is = absurd (not_answered report is)

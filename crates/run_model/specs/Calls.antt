@@ -5,7 +5,6 @@ use Rattle.update_lanes.specs.Lanes.{OneRose}
 use Rattle.store_checks.specs.Causes.{Tell}
 use Rattle.store_reader.specs.declared.store.Store.{Store}
 use Rattle.epoch_seats.specs.Between.{IsBetweenEpochs}
-use Rattle.round_steps.specs.Going as going
 use Rattle.round_steps.specs.Going.{AreDevices, AreRows, MetersGoOn, SomeRose}
 use Rattle.round_loop.specs.Keeping.{AreLater, AreLaterRows, IsTold, Moment}
 

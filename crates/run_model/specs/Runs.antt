@@ -5,7 +5,10 @@ use Rattle.graph_model.specs.declared.job.Job.{Job}
 use Rattle.graph_model.specs.Answer.{edges}
 use Rattle.chunk_object.specs.Epochs.{Epoch}
 use Rattle.round_loop.specs.declared.run.Start.TheVariants.{Fresh}
+use Rattle.endings.specs.declared.ending.Report.{Report}
 use Rattle.endings.specs.declared.ending.Ending.{Ending}
+use Rattle.endings.specs.declared.ending.Ending.TheVariants.{Answered}
+use Rattle.run_model.specs.Telling.{CountsChunks}
 use Rattle.run_model.specs.Calls.{Call, OfText, OfTold, IsBack}
 use Rattle.run_model.specs.Causes.{HasCause, IsExact, IsAnswered}
 use Rattle.run_model.specs.Printing.{HasPrinted}
@@ -19,8 +22,8 @@ MOST_BEATS = 1000003
 
 module _ {D M : Type 0} (state : D → DiskState) (faults : M → ℕ) (job : Job) where
   -- It ends with a cause, and as the text and the devices call for; it has printed what that ending allows, and read all
-  -- where it has answered; the seat went through the epochs of the job, each chunk taken once; all is in its place; and it
-  -- is said what stands, then and after a stop at any moment.
+  -- where it has answered; the seat went through the epochs of the job, each chunk taken once; its report counts the
+  -- chunks of each engine; all is in its place; and it is said what stands, then and after a stop at any moment.
   pub record IsRun (call : Call D M) (ending : Ending) : Type 0 where
     pub cause : HasCause state faults job call ending
     pub exact : IsExact state faults job call ending
@@ -29,6 +32,7 @@ module _ {D M : Type 0} (state : D → DiskState) (faults : M → ℕ) (job : Jo
     pub epochs : List Epoch
     pub gone : HasGone job call.before.seat call.after.seat ending epochs
     pub are : OfText call.text (λ text. OfTold state call.before.store (λ graphs. AreJobEpochs job (edges job text) Fresh ending epochs))
+    pub counts : (report : Report) → ending ≡ Answered report → OfText call.text (λ text. CountsChunks job (edges job text) report)
     pub back : IsBack state faults job.engines MOST_BEATS call.before call.after
     pub stands : StandsAfter state job call ending
     pub stops : LeavesStores state job call

@@ -5,3 +5,4 @@ pub mod Standing
 pub mod Found
 pub mod Accepted
 pub mod Few
+pub mod Counted

@@ -1,8 +1,9 @@
 //! The laws. Each stands on the contract of a function that does nothing.
-ghost use Rattle.std.specs.Prelude.{◌≡◌, ℕ, ◌<◌, ◌≤◌, List, Some, length, slice_index_or};
+ghost use Rattle.std.specs.Prelude.{◌≡◌, ℕ, ◌<◌, ◌≤◌, List, Some, length, slice_index_or, sum_by};
+ghost use Rattle.std.specs.List.{range_with_len};
 ghost use Rattle.graph_model.specs.declared.edge.Edge.{Edge};
 ghost use Rattle.graph_model.specs.declared.job.Job.{Job};
-ghost use Rattle.graph_model.specs.Jobs.{IsWellFormedJob};
+ghost use Rattle.graph_model.specs.Jobs.{IsWellFormedJob, parts_of};
 ghost use Rattle.graph_model.specs.Answer.{edges as edges_of, IsAccepted};
 ghost use Rattle.graph_model.specs.Rounds.{IsWithinGraph};
 ghost use Rattle.partitioner.specs.declared.split.Split.{Split};
@@ -10,8 +11,8 @@ ghost use Rattle.partitioner.specs.Splits.{IsSplitOf};
 ghost use Rattle.chunk_object.specs.History.{most_chunks};
 ghost use Rattle.chunk_file.specs.declared.index.Place.{Place};
 ghost use Rattle.chunk_file.specs.declared.index.TheConstants.{MOST_PLACES};
-ghost use Rattle.chunk_file.specs.Places.{total_of};
-ghost use Rattle.store_model.specs.Graphs.{edge_chunks, graph};
+ghost use Rattle.chunk_file.specs.Places.{places_of, total_of};
+ghost use Rattle.store_model.specs.Graphs.{edge_chunks, chunks_on, graph};
 ghost use Rattle.store_reader.specs.Indexed.{lens_of};
 ghost use Rattle.storage_engine.specs.Making.{HasPlaces};
 ghost use Rattle.store_checks.specs.Causes.{Tell};
@@ -48,4 +49,12 @@ pub fn accepted_text_is_storable()
 /// Where all places of an index are as few as a store may have, each cursor has room for its own.
 pub fn index_is_few()
     ensures { (index : List (List Place)) → total_of index ≤ MOST_PLACES → (cursor : ℕ) → lens_of index cursor ≤ most_chunks }
+{}
+
+/// Where an index has the places of the chunks of these edges, an engine has as many places as chunks: over the partitions
+/// of the job, and over as many more as an index has lists for.
+pub fn places_are_counted()
+    ensures { (job : Job) (edges : List Edge) → IsStorable job edges → (index : List (List Place)) → HasPlaces job (edge_chunks job edges) index →
+        (parts : ℕ) → parts_of job ≤ parts → parts ≤ 64 → (e : ℕ) → e < 8 →
+        sum_by (λ p. length (places_of index e p)) (range_with_len 0 parts) ≡ length (chunks_on job e (edge_chunks job edges)) }
 {}

@@ -29,7 +29,7 @@ use Rattle.run_model.specs.Epochs.{IsComplete, HasGone}
 use Rattle.run_model.specs.Runs.{MOST_BEATS}
 use Rattle.store_resume.specs.Resumes.{told_as, OfBytes, HasResumeCause, HasPrintedNothing, HasRefused, HasCauseOfJob, StandsAfterResume, GoesOnWell, IsResume}
 use Rattle.run_model.proofs.Going.{store_same}
-use Rattle.run_model.proofs.Untouched.{prints_none, gone_none, none_of_job}
+use Rattle.run_model.proofs.Untouched.{prints_none, gone_none, none_of_job, none_counted}
 use Rattle.store_resume.specs.Refusals.{refusal}
 
 -- some job, of which no epoch was opened
@@ -141,7 +141,9 @@ module _ {D M : Type 0} (state : D → DiskState) (lawful : (d : D) → IsDisk (
       unsettled = λ never. inr is;
       settled = λ settles. inr is;
       gone = gone job ending none;
+      found = λ complete. absurd (none complete);
       are = λ start is_start. none_of_job job ending none edges start;
+      counts = none_counted job ending none edges;
       stands = λ settled. stands;
       kept = λ settled round kept b stopped_graphs stopped within stop_graphs stop_values.
           (round, omega arith, subst (λ images. IsEverywhere job edges images round) (sym (settled.1 stopped (idle_values b stopped stop_values))) kept.everywhere);
@@ -164,7 +166,9 @@ module _ {D M : Type 0} (state : D → DiskState) (lawful : (d : D) → IsDisk (
     printed = printed_of why;
     unread = unread;
     epochs = [];
-    gone = (some_job, gone some_job (refusal why) (not_complete why));
+    job = some_job;
+    gone = gone some_job (refusal why) (not_complete why);
+    limited = λ limit is. absurd (not_complete why (subst IsComplete (sym is) tt));
     back = back;
     graphs = ap (λ (store : Store D M). store.graphs) same_store;
     refused = refused_of why;

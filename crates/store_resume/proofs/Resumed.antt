@@ -45,6 +45,7 @@ use Rattle.job_run.specs.Finish.{rounds_of}
 use Rattle.job_run.specs.Running.{Prints as HasPrints, HasFinishCause}
 use Rattle.store_edges.proofs.Standing.{has_edges as edges_there}
 use Rattle.store_edges.proofs.Found.{found_stand}
+use Rattle.store_edges.proofs.Counted.{engine_counted}
 use Rattle.store_rounds.specs.Going.{start_of, LeaveRounds}
 use Rattle.store_rounds.proofs.Places.{are_images, told_images, settled_as, stop_of_each, idle_stop}
 use Rattle.store_rounds.proofs.SameRounds.{reached_by_run}
@@ -62,15 +63,13 @@ use Rattle.run_model.specs.Epochs.{HasGone, AreJobEpochs, IsReportOf}
 use Rattle.run_model.specs.Standing.{IsStored}
 use Rattle.run_model.specs.Stops.{AtEachStop}
 use Rattle.run_model.specs.Runs.{MOST_BEATS}
-use Rattle.store_resume.specs.Resumes.{told_as, IsStartOf, OfBytes, AreSettled, HasResumeCause, HasPrintedNothing, HasRefused, HasCauseOfJob, StandsAfterResume, GoesOnWell, IsResume}
+use Rattle.store_resume.specs.Resumes.{told_as, IsStartOf, OfBytes, AreSettled, HasResumeCause, HasPrintedNothing, HasRefused, HasCauseOfJob, StandsAfterResume, GoesOnWell, IsAtLimit, IsResume}
 use Rattle.run_model.proofs.Going.{devices_on, store_same, store_run, some_rose_later}
 use Rattle.run_model.proofs.Untouched.{prints_none}
+use Rattle.run_model.proofs.Counted.{same_report, counts_of_finish}
 use Rattle.store_resume.specs.Going.{GoesOn}
 use Rattle.store_resume.proofs.Refused.{refused_resume}
-use Rattle.store_resume.proofs.Starts.{opened_found, job_found, places_found, start_found, one_start, behind_kept, stood_from}
-
-same_report : (a b : Report) → Answered a ≡ Answered b → a ≡ b
-same_report a b same = cc
+use Rattle.store_resume.proofs.Starts.{opened_found, job_found, places_found, start_found, handed_in, one_start, behind_kept, stood_from}
 
 same_limit : (a b : ℕ) → RoundLimit a ≡ RoundLimit b → a ≡ b
 same_limit a b same = cc
@@ -182,7 +181,7 @@ module _ {D M : Type 0} (state : D → DiskState) (lawful : (d : D) → IsDisk (
     damaged : (part : Part) (engine place : ℕ) → RunsTo (Err (fault.Damaged part engine place)) → ⊥
     damaged part engine place runs = not_damaged (Err (fault.Damaged part engine place)) runs part engine place refl graphs values tell_graphs tell_values others
 
-    cause_of : (ended : Finish) → RunsTo (rounds_of ended) → HasPrints state (split_for job) call.after.store.values.items (shows_side job.program) ended call.out call.out_after → HasCauseOfJob state faults call job edges (ending_of job.limit ended)
+    cause_of : (ended : Finish) → RunsTo (rounds_of ended) → HasPrints state (split_for job) call.after.store.values.items (shows_side job.program) ended call.out call.out_after → HasCauseOfJob state faults call job edges (ending_of job (index_in found) ended)
     cause_of (finish.Answered done) runs prints = (λ never. let wrong = (runs_well (Ok done) runs).settles never in absurd (cc), whole_printed done runs prints)
     cause_of (finish.NotWritten done) runs prints = front_printed done runs prints
     cause_of (finish.NotRead done) runs prints = inr (front_printed done runs prints)
@@ -191,7 +190,7 @@ module _ {D M : Type 0} (state : D → DiskState) (lawful : (d : D) → IsDisk (
     cause_of (finish.Stopped (fault.Damaged part engine place)) runs prints = damaged part engine place runs
     cause_of (finish.Stopped fault.Memory) runs prints = tt
 
-    unsettled_of : (ended : Finish) → RunsTo (rounds_of ended) → NeverSettles job edges → Comes (RoundLimit job.limit) (ending_of job.limit ended)
+    unsettled_of : (ended : Finish) → RunsTo (rounds_of ended) → NeverSettles job edges → Comes (RoundLimit job.limit) (ending_of job (index_in found) ended)
     unsettled_of (finish.Answered done) runs never = let wrong = (runs_well (Ok done) runs).settles never in absurd (cc)
     unsettled_of (finish.NotWritten done) runs never = inr refl
     unsettled_of (finish.NotRead done) runs never = inr refl
@@ -200,7 +199,7 @@ module _ {D M : Type 0} (state : D → DiskState) (lawful : (d : D) → IsDisk (
     unsettled_of (finish.Stopped (fault.Damaged part engine place)) runs never = absurd (damaged part engine place runs)
     unsettled_of (finish.Stopped fault.Memory) runs never = inr refl
 
-    settled_of : (ended : Finish) → RunsTo (rounds_of ended) → ¬ (NeverSettles job edges) → IsAnswered (ending_of job.limit ended) ⊎ (is_interrupted (ending_of job.limit ended) ≡ true)
+    settled_of : (ended : Finish) → RunsTo (rounds_of ended) → ¬ (NeverSettles job edges) → IsAnswered (ending_of job (index_in found) ended) ⊎ (is_interrupted (ending_of job (index_in found) ended) ≡ true)
     settled_of (finish.Answered done) runs settles = inl tt
     settled_of (finish.NotWritten done) runs settles = inr refl
     settled_of (finish.NotRead done) runs settles = inr refl
@@ -209,7 +208,7 @@ module _ {D M : Type 0} (state : D → DiskState) (lawful : (d : D) → IsDisk (
     settled_of (finish.Stopped (fault.Damaged part engine place)) runs settles = absurd (damaged part engine place runs)
     settled_of (finish.Stopped fault.Memory) runs settles = inr refl
 
-    stands_of : (ended : Finish) → RunsTo (rounds_of ended) → AreSettled state faults call graphs values → StandsAfterResume state faults call job edges (ending_of job.limit ended)
+    stands_of : (ended : Finish) → RunsTo (rounds_of ended) → AreSettled state faults call graphs values → StandsAfterResume state faults call job edges (ending_of job (index_in found) ended)
     stands_of (finish.Answered done) runs settled =
         let good = runs_well (Ok done) runs in
         stored (Ok done) runs settled done.round (λ kept changed is. is_good kept changed is done.round good.last.0) good.last.1
@@ -234,13 +233,13 @@ module _ {D M : Type 0} (state : D → DiskState) (lawful : (d : D) → IsDisk (
       all_within = λ limit limited. absurd (not_limit limit limited);
     }
 
-    are_of : (ended : Finish) (runs : RunsTo (rounds_of ended)) → AreJobEpochs job edges start (ending_of job.limit ended) runs.epochs
+    are_of : (ended : Finish) (runs : RunsTo (rounds_of ended)) → AreJobEpochs job edges start (ending_of job (index_in found) ended) runs.epochs
     are_of (finish.Answered done) runs =
         let good = runs_well (Ok done) runs in
         record {
           are = good.are;
-          last = λ report answered. subst (λ (r : Report). IsLastRound (rules_of job.program) job.vertices edges job.limit r.rounds) (same_report (report_of done) report answered) good.last.0;
-          all = λ report answered. subst (λ (r : Report). length runs.epochs ≡ epochs_to (rules_of job.program) start r.rounds) (same_report (report_of done) report answered) runs.done.1;
+          last = λ report answered. subst (λ (r : Report). IsLastRound (rules_of job.program) job.vertices edges job.limit r.rounds) (same_report (report_of job (index_in found) done) report answered) good.last.0;
+          all = λ report answered. subst (λ (r : Report). length runs.epochs ≡ epochs_to (rules_of job.program) start r.rounds) (same_report (report_of job (index_in found) done) report answered) runs.done.1;
           all_written = λ written last is_last. absurd (cc);
           all_within = λ limit limited. absurd (cc);
         }
@@ -253,7 +252,7 @@ module _ {D M : Type 0} (state : D → DiskState) (lawful : (d : D) → IsDisk (
           all_written = λ written last is_last. subst (λ (n : ℕ). length runs.epochs ≡ epochs_to (rules_of job.program) start n) (last_is_one (rules_of job.program) job.vertices edges job.limit done.round last good.last.0 is_last) runs.done.1;
           all_within = λ limit limited. absurd (cc);
         }
-    are_of (finish.NotRead done) runs = in_order (finish.NotRead done) runs (ending_of job.limit (finish.NotRead done)) (λ report answered. cc) (λ written. cc) (λ limit limited. cc)
+    are_of (finish.NotRead done) runs = in_order (finish.NotRead done) runs (ending_of job (index_in found) (finish.NotRead done)) (λ report answered. cc) (λ written. cc) (λ limit limited. cc)
     are_of (finish.Stopped fault.RoundLimit) runs =
         let good = runs_well (Err fault.RoundLimit) runs in
         record {
@@ -263,16 +262,16 @@ module _ {D M : Type 0} (state : D → DiskState) (lawful : (d : D) → IsDisk (
           all_written = λ written last is_last. absurd (cc);
           all_within = λ limit limited. subst (λ (n : ℕ). length runs.epochs ≡ epochs_to (rules_of job.program) start n) (same_limit job.limit limit limited) (good.unsettled refl).1;
         }
-    are_of (finish.Stopped fault.DiskFault) runs = in_order (finish.Stopped fault.DiskFault) runs (ending_of job.limit (finish.Stopped fault.DiskFault)) (λ report answered. cc) (λ written. cc) (λ limit limited. cc)
+    are_of (finish.Stopped fault.DiskFault) runs = in_order (finish.Stopped fault.DiskFault) runs (ending_of job (index_in found) (finish.Stopped fault.DiskFault)) (λ report answered. cc) (λ written. cc) (λ limit limited. cc)
     are_of (finish.Stopped (fault.Damaged part engine place)) runs = absurd (damaged part engine place runs)
-    are_of (finish.Stopped fault.Memory) runs = in_order (finish.Stopped fault.Memory) runs (ending_of job.limit (finish.Stopped fault.Memory)) (λ report answered. cc) (λ written. cc) (λ limit limited. cc)
+    are_of (finish.Stopped fault.Memory) runs = in_order (finish.Stopped fault.Memory) runs (ending_of job (index_in found) (finish.Stopped fault.Memory)) (λ report answered. cc) (λ written. cc) (λ limit limited. cc)
 
-  gone_of : (ended : Finish) (runs : RunsTo (rounds_of ended)) → HasGone job call.before.seat call.after.seat (ending_of job.limit ended) runs.epochs
+  gone_of : (ended : Finish) (runs : RunsTo (rounds_of ended)) → HasGone job call.before.seat call.after.seat (ending_of job (index_in found) ended) runs.epochs
   gone_of (finish.Answered done) runs = record {
     through = runs.through;
     fronts = runs.fronts;
     whole = λ complete. runs.done.0;
-    reported = λ report is. subst (λ (r : Report). IsReportOf runs.epochs r) (same_report (report_of done) report is) (record { claims = runs.counts.0; admitted = runs.counts.1 });
+    reported = λ report is. subst (λ (r : Report). IsReportOf runs.epochs r) (same_report (report_of job (index_in found) done) report is) (record { claims = runs.counts.0; admitted = runs.counts.1 });
   }
   gone_of (finish.NotWritten done) runs = record { through = runs.through; fronts = runs.fronts; whole = λ complete. runs.done.0; reported = λ report is. absurd (cc) }
   gone_of (finish.NotRead done) runs = record { through = runs.through; fronts = runs.fronts; whole = λ complete. runs.done.0; reported = λ report is. absurd (cc) }
@@ -281,8 +280,31 @@ module _ {D M : Type 0} (state : D → DiskState) (lawful : (d : D) → IsDisk (
   gone_of (finish.Stopped (fault.Damaged part engine place)) runs = record { through = runs.through; fronts = runs.fronts; whole = λ complete. absurd complete; reported = λ report is. absurd (cc) }
   gone_of (finish.Stopped fault.Memory) runs = record { through = runs.through; fronts = runs.fronts; whole = λ complete. absurd complete; reported = λ report is. absurd (cc) }
 
+  -- where it comes to the limit
+  at_limit : RunsTo (Err fault.RoundLimit) → IsAtLimit state faults call job job.limit
+  at_limit runs =
+      let at = runs.at_limit refl in
+      record {
+        of_job = refl;
+        round = at.0;
+        reached = at.1;
+        stands = elim at.2 [
+          | inl handed ↦ inl (λ graphs values tell_graphs tell_values others. handed_in graphs values found at.0 handed (recovered graphs values tell_graphs tell_values))
+          | inr made ↦ inr made.1
+        ];
+      }
+
+  limited_of : (ended : Finish) → RunsTo (rounds_of ended) → (limit : ℕ) → ending_of job (index_in found) ended ≡ RoundLimit limit → IsAtLimit state faults call job limit
+  limited_of (finish.Answered done) runs limit is = absurd (cc)
+  limited_of (finish.NotWritten done) runs limit is = absurd (cc)
+  limited_of (finish.NotRead done) runs limit is = absurd (cc)
+  limited_of (finish.Stopped fault.RoundLimit) runs limit is = subst (IsAtLimit state faults call job) (same_limit job.limit limit is) (at_limit runs)
+  limited_of (finish.Stopped fault.DiskFault) runs limit is = absurd (cc)
+  limited_of (finish.Stopped (fault.Damaged part engine place)) runs limit is = absurd (cc)
+  limited_of (finish.Stopped fault.Memory) runs limit is = absurd (cc)
+
   -- Whether or not it is the store of a job.
-  resume_cause : (ended : Finish) → RunsTo (rounds_of ended) → HasFinishCause faults meters call.after.meters call.write_faults call.write_faults_after ended → HasResumeCause state faults call (ending_of job.limit ended)
+  resume_cause : (ended : Finish) → RunsTo (rounds_of ended) → HasFinishCause faults meters call.after.meters call.write_faults call.write_faults_after ended → HasResumeCause state faults call (ending_of job (index_in found) ended)
   resume_cause (finish.Answered done) runs caused = tt
   resume_cause (finish.NotWritten done) runs caused = caused.caused
   resume_cause (finish.NotRead done) runs caused = inr (inl (meter_rose_later faults call.before.meters meters call.after.meters on caused.caused))
@@ -292,7 +314,7 @@ module _ {D M : Type 0} (state : D → DiskState) (lawful : (d : D) → IsDisk (
       absurd (not_damaged (Err (fault.Damaged part engine place)) runs part engine place refl graphs values tell_graphs tell_values others)
   resume_cause (finish.Stopped fault.Memory) runs caused = tt
 
-  printed_of : (ended : Finish) → HasPrints state (split_for job) call.after.store.values.items (shows_side job.program) ended call.out call.out_after → HasPrintedNothing state faults call (ending_of job.limit ended)
+  printed_of : (ended : Finish) → HasPrints state (split_for job) call.after.store.values.items (shows_side job.program) ended call.out call.out_after → HasPrintedNothing state faults call (ending_of job (index_in found) ended)
   printed_of (finish.Answered done) prints = tt
   printed_of (finish.NotWritten done) prints = tt
   printed_of (finish.NotRead done) prints = tt
@@ -301,7 +323,7 @@ module _ {D M : Type 0} (state : D → DiskState) (lawful : (d : D) → IsDisk (
   printed_of (finish.Stopped (fault.Damaged part engine place)) prints = prints_none call.out call.out_after prints
   printed_of (finish.Stopped fault.Memory) prints = prints_none call.out call.out_after prints
 
-  refused_of : (ended : Finish) → RunsTo (rounds_of ended) → HasRefused state faults call (ending_of job.limit ended)
+  refused_of : (ended : Finish) → RunsTo (rounds_of ended) → HasRefused state faults call (ending_of job (index_in found) ended)
   refused_of (finish.Answered done) runs = tt
   refused_of (finish.NotWritten done) runs = tt
   refused_of (finish.NotRead done) runs = tt
@@ -313,14 +335,16 @@ module _ {D M : Type 0} (state : D → DiskState) (lawful : (d : D) → IsDisk (
 
   module _ (ended : Finish) (runs : RunsTo (rounds_of ended)) (prints : HasPrints state (split_for job) call.after.store.values.items (shows_side job.program) ended call.out call.out_after) where
     goes_on_well : (edges : List Edge) (graphs values : List (List ℕ)) → Tell state call.before.store.graphs.items graphs → Tell state call.before.store.values.items values → IsTold state call.before.store
-        → IsStorable job edges → IsWholeStore job edges graphs values → Resumes job edges values found → GoesOnWell state faults call job edges graphs values (ending_of job.limit ended) runs.epochs
+        → IsStorable job edges → IsWholeStore job edges graphs values → Resumes job edges values found → GoesOnWell state faults call job edges graphs values (ending_of job (index_in found) ended) runs.epochs
     goes_on_well edges graphs values tell_graphs tell_values others storable whole resumes = record {
       cause = cause_of edges graphs values storable tell_graphs tell_values others whole resumes ended runs prints;
       unsettled = unsettled_of edges graphs values storable tell_graphs tell_values others whole resumes ended runs;
       settled = settled_of edges graphs values storable tell_graphs tell_values others whole resumes ended runs;
       gone = gone_of ended runs;
-      are = λ begins is_start. subst (λ (s : Start). AreJobEpochs job edges s (ending_of job.limit ended) runs.epochs) (one_start job edges values start begins (start_found job edges values found resumes) is_start)
+      found = λ _. (start, start_found job edges values found resumes);
+      are = λ begins is_start. subst (λ (s : Start). AreJobEpochs job edges s (ending_of job (index_in found) ended) runs.epochs) (one_start job edges values start begins (start_found job edges values found resumes) is_start)
           (are_of edges graphs values storable tell_graphs tell_values others whole resumes ended runs);
+      counts = counts_of_finish job edges (index_in found) formed (engine_counted job edges storable (index_in found) (places_found job edges values found resumes)) ended;
       stands = stands_of edges graphs values storable tell_graphs tell_values others whole resumes ended runs;
       kept = kept_at_stop edges graphs values storable tell_graphs tell_values others whole resumes (rounds_of ended) runs;
     }
@@ -348,20 +372,22 @@ module _ {D M : Type 0} (state : D → DiskState) (lawful : (d : D) → IsDisk (
         (are_images state call.before.store.values.items values tell_values.many (told_images state lawful call.before.store.values.items values tell_values))
 
     finished_resume : (ended : Finish) → RunsTo (rounds_of ended) → HasPrints state (split_for job) call.after.store.values.items (shows_side job.program) ended call.out call.out_after
-        → HasFinishCause faults meters call.after.meters call.write_faults call.write_faults_after ended → IsResume state faults call engines (ending_of job.limit ended)
+        → HasFinishCause faults meters call.after.meters call.write_faults call.write_faults_after ended → IsResume state faults call engines (ending_of job (index_in found) ended)
     finished_resume ended runs prints caused = record {
       cause = resume_cause ended runs caused;
       exact = λ graphs values tell_graphs tell_values others check fails. absurd (recovered_has_none graphs values found check (recovered graphs values tell_graphs tell_values) fails);
       printed = printed_of ended prints;
       unread = unread;
       epochs = runs.epochs;
-      gone = (job, gone_of ended runs);
+      job = job;
+      gone = gone_of ended runs;
+      limited = λ limit is. limited_of ended runs limit is;
       back = back (rounds_of ended) runs;
       graphs = runs.keeps.graphs;
       refused = refused_of ended runs;
       of_job = λ given edges storable graphs values tell_graphs tell_values others whole.
           let resumes = of_job given edges graphs values storable (inr whole) tell_graphs tell_values in
-          subst (λ (j : Job). IsStorable j edges → IsWholeStore j edges graphs values → Resumes j edges values found → GoesOnWell state faults call j edges graphs values (ending_of job.limit ended) runs.epochs)
+          subst (λ (j : Job). IsStorable j edges → IsWholeStore j edges graphs values → Resumes j edges values found → GoesOnWell state faults call j edges graphs values (ending_of job (index_in found) ended) runs.epochs)
           (job_found given edges values found resumes) (goes_on_well ended runs prints edges graphs values tell_graphs tell_values others) storable whole resumes;
       stops = λ given edges storable graphs values tell_graphs tell_values others stores.
           let told = told_store given edges graphs values tell_graphs tell_values stores in

@@ -5,6 +5,8 @@ use Rattle.graph_model.specs.declared.job.Job.{Job}
 use Rattle.graph_model.specs.Programs.{rules_of}
 use Rattle.ports.specs.Disk.{DiskState, InEveryImage}
 use Rattle.storage_engine.specs.Making.{HasPlaces}
+use Rattle.store_model.specs.Damage.{head_of, own_in}
+use Rattle.store_checks.specs.Rounds.{StandsEverywhere}
 use Rattle.store_model.specs.Graphs.{edge_chunks}
 use Rattle.restart.specs.declared.recovering.Recovered.{Recovered}
 use Rattle.restart.specs.declared.recovering.Recovered.TheVariants.{Found, Fresh as NoneFound}
@@ -23,6 +25,11 @@ use Rattle.store_resume.specs.Resumes.{IsStartOf}
 pub opened_found : (graphs values : List (List ℕ)) (found : Recovered) → IsRecovered graphs values found → IsOpened graphs values (job_in found) (index_in found)
 opened_found graphs values (Found held index round changed) recovered = recovered.0
 opened_found graphs values (NoneFound held index) recovered = recovered.0
+
+-- a round that is handed in stands in an open slot of every engine
+pub handed_in : (graphs values : List (List ℕ)) (found : Recovered) (round : ℕ) → round + 1 ≡ first_made (start_of found) → IsRecovered graphs values found → StandsEverywhere (own_in (head_of graphs 0)) values round
+handed_in graphs values (Found held index at changed) round is recovered = subst (StandsEverywhere (own_in (head_of graphs 0)) values) (let same : at ≡ round = omega arith in same) recovered.1.everywhere
+handed_in graphs values (NoneFound held index) round is recovered = absurd (omega arith)
 
 module _ (job : Job) (edges : List Edge) (values : List (List ℕ)) where
   pub job_found : (found : Recovered) → Resumes job edges values found → job_in found ≡ job

@@ -24,7 +24,7 @@ module _ {D M : Type 0} (state : D → DiskState) (faults : M → ℕ) (job : Jo
 
   -- the job came to this finish
   pub record Finishes (ending : Ending) (finish : Finish) : Type 0 where
-    pub told : ending ≡ ending_of job.limit finish
+    pub told : ending ≡ ending_of job index finish
     pub rounds : HasRun state faults (rules_of job.program) job start index call.before call.after (rounds_of finish)
     pub printed : Prints state (split_for job) call.after.store.values.items (shows_side job.program) finish call.out call.out_after
     pub cause : HasFinishCause faults call.before.meters call.after.meters call.write_faults call.write_faults_after finish

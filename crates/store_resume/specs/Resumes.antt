@@ -10,21 +10,26 @@ use Rattle.graph_model.specs.Rounds.{IsLastRound}
 use Rattle.graph_model.specs.Answer.{NeverSettles}
 use Rattle.chunk_object.specs.Epochs.{Epoch}
 use Rattle.store_model.specs.Damage as damage
-use Rattle.store_model.specs.Damage.{HasFault}
+use Rattle.store_model.specs.Damage.{HasFault, head_of, own_in}
 use Rattle.store_model.specs.Kept.{IsWholeStore, StoreOf, IsEverywhere, IsKeptRound, IsFresh}
 use Rattle.store_checks.specs.Causes.{Tell}
+use Rattle.store_checks.specs.Rounds.{StandsEverywhere}
 use Rattle.store_reader.specs.declared.store.Part.TheVariants.{Graph, Values}
 use Rattle.restart.specs.Storable.{IsStorable}
 use Rattle.restart.specs.Resuming.{changed_of_all}
+use Rattle.round_steps.specs.Going.{IsOpenEverywhere}
+use Rattle.round_loop.specs.Starts.{split_for}
 use Rattle.round_loop.specs.Keeping.{IsTold}
 use Rattle.round_loop.specs.declared.run.Start.{Start}
 use Rattle.round_loop.specs.declared.run.Start.TheVariants.{Fresh, At}
+use Rattle.endings.specs.declared.ending.Report.{Report}
 use Rattle.endings.specs.declared.ending.Ending.{Ending}
 use Rattle.endings.specs.declared.ending.Ending.TheVariants.{Answered, Dropped, Usage, BadLine, DiskFault, RoundLimit, Memory, ReadFault, WriteFault, NotPrepared, EnginesDiffer, Damaged, TooLong, StoreHolds}
+use Rattle.run_model.specs.Telling.{CountsChunks}
 use Rattle.run_model.specs.Calls.{Call, AnyRose, IsBack}
 use Rattle.run_model.specs.Causes.{is_interrupted, IsAnswered, Comes}
 use Rattle.run_model.specs.Printing.{Prints, PrintsAnswer, PrintsFront}
-use Rattle.run_model.specs.Epochs.{HasGone, AreJobEpochs}
+use Rattle.run_model.specs.Epochs.{IsComplete, HasGone, AreJobEpochs}
 use Rattle.run_model.specs.Standing.{IsStored}
 use Rattle.run_model.specs.Stops.{AtEachStop}
 use Rattle.run_model.specs.Runs.{MOST_BEATS}
@@ -73,6 +78,13 @@ module _ {D M : Type 0} (state : D → DiskState) (faults : M → ℕ) (call : C
   HasResumeCause (TooLong limit) = ⊥
   HasResumeCause StoreHolds = ⊥
 
+  -- the limit is the job's, and a round of at least the limit stands in an open slot of every engine: it stood there, or was made
+  pub record IsAtLimit (job : Job) (limit : ℕ) : Type 0 where
+    pub of_job : limit ≡ job.limit
+    pub round : ℕ
+    pub reached : limit ≤ round
+    pub stands : OfBytes (λ graphs values. StandsEverywhere (own_in (head_of graphs 0)) values round) ⊎ IsOpenEverywhere state (split_for job) round call.after.store.values.items
+
   -- nothing was printed but where the rounds were made to their last
   abbrev pub HasPrintedNothing : Ending → Type 0
   HasPrintedNothing (Answered report) = ⊤
@@ -112,8 +124,10 @@ module _ {D M : Type 0} (state : D → DiskState) (faults : M → ℕ) (call : C
       pub unsettled : NeverSettles job edges → Comes (RoundLimit job.limit) ending
       pub settled : ¬ (NeverSettles job edges) → IsAnswered ending ⊎ (is_interrupted ending ≡ true)
       pub gone : HasGone job call.before.seat call.after.seat ending epochs
-      -- from the start that the store has, which is only one
+      -- from the start that the store has, which is only one and was found where the rounds were made to their end
+      pub found : IsComplete ending → (start : Start) × IsStartOf job edges values start
       pub are : (start : Start) → IsStartOf job edges values start → AreJobEpochs job edges start ending epochs
+      pub counts : (report : Report) → ending ≡ Answered report → CountsChunks job edges report
       pub stands : AreSettled graphs values → StandsAfterResume ending
       -- no stop loses the round that was found
       pub kept : AreSettled graphs values → (round : ℕ) → IsKeptRound job edges values round
@@ -128,7 +142,9 @@ module _ {D M : Type 0} (state : D → DiskState) (faults : M → ℕ) (call : C
     pub printed : HasPrintedNothing ending
     pub unread : call.text_after ≡ call.text
     pub epochs : List Epoch
-    pub gone : (job : Job) × HasGone job call.before.seat call.after.seat ending epochs
+    pub job : Job
+    pub gone : HasGone job call.before.seat call.after.seat ending epochs
+    pub limited : (limit : ℕ) → ending ≡ RoundLimit limit → IsAtLimit job limit
     pub back : IsBack state faults engines MOST_BEATS call.before call.after
     pub graphs : call.after.store.graphs ≡ call.before.store.graphs
     pub refused : HasRefused ending

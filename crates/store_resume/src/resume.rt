@@ -1,7 +1,6 @@
 // One resume, from the heads of the store to the printed answer.
 ghost use Rattle.std.specs.Prelude.{◌≡◌, ℕ, ◌+◌, ◌^◌, ◌≤◌, Option, List, vec_len};
 ghost use Rattle.graph_model.specs.Jobs.{IsWellFormedJob};
-ghost use Rattle.partitioner.specs.Splits.{IsSplit};
 ghost use Rattle.chunk_file.specs.declared.index.TheConstants.{MOST_PLACES};
 ghost use Rattle.chunk_file.specs.Places.{total_of};
 ghost use Rattle.epoch_seats.specs.Between.{IsBetweenEpochs};
@@ -18,8 +17,7 @@ use chunk_cursor::{CursorSeat, CursorTable};
 use chunk_file::Index;
 use endings::Ending;
 use graph_model::Job;
-use job_run::run_job;
-use partitioner::Split;
+use job_run::{run_job, split_of};
 use ports::{Beat, Disk, Gate, Sink};
 use restart::{RecoverFault, Recovered, recover};
 use round_loop::Start;
@@ -136,7 +134,7 @@ fn go_on<R: Threads + Sync, K: Sink, D: Disk, G: Gate + Sync>(
     let finish = run_job(
         rt, alloc, job, start, index, store, table, seat, meters, gate, beat, &mut room, out,
     );
-    ending_of(finish, job.limit)
+    ending_of(finish, job, index)
 }
 
 /// The ending by which it is told that a store was not recovered.
@@ -157,17 +155,5 @@ fn refusal(fault: RecoverFault) -> Ending
         },
         RecoverFault::DiskFault => Ending::DiskFault,
         RecoverFault::Memory => Ending::Memory,
-    }
-}
-
-/// The split of a job.
-fn split_of(job: &Job) -> Split
-    requires { IsWellFormedJob job.now }
-    ensures split { IsSplit result }
-    ensures same { result ≡ split_for job.now }
-{
-    match Split::of(job.vertices, job.engines, job.most) {
-        Some(split) => split,
-        None => unreachable!(),
     }
 }

@@ -37,6 +37,7 @@ use Rattle.job_run.specs.Running.{Prints, HasFinishCause}
 use Rattle.answer_lines.specs.Printing.{PrintsAll, PrintsFront}
 use Rattle.store_model.specs.Slots.{slot_of}
 use Rattle.store_edges.proofs.Accepted.{edges_within}
+use Rattle.store_edges.proofs.Counted.{engine_counted}
 use Rattle.store_rounds.specs.Making.{LeaveMade, IsMadeStore}
 use Rattle.store_rounds.specs.Images.{IsStopOfEach}
 use Rattle.store_rounds.proofs.Places.{stop_of_each}
@@ -47,7 +48,7 @@ use Rattle.store_rounds.proofs.Answering.{whole_answer, front_answer}
 use Rattle.endings.specs.declared.ending.Report.{Report}
 use Rattle.endings.specs.declared.ending.Ending.{Ending}
 use Rattle.endings.specs.declared.ending.Ending.TheVariants.{Answered, WriteFault, RoundLimit}
-use Rattle.run_model.specs.Telling.{ending_of, report_of}
+use Rattle.run_model.specs.Telling.{ending_of, report_of, CountsChunks}
 use Rattle.run_model.specs.Calls.{Call, OfText, IsReady, Tells, StoreGoesOn, IsBack}
 use Rattle.run_model.specs.Causes.{HasCause}
 use Rattle.run_model.specs.Printing.{HasPrinted, PrintsAnswer, PrintsFront as FrontOfAnswer}
@@ -58,11 +59,9 @@ use Rattle.run_model.specs.Runs.{IsRun, MOST_BEATS}
 use Rattle.run_model.proofs.Going.{devices_on, store_then, store_run, some_rose_later}
 use Rattle.text_run.proofs.Causes.{of_some, unprepared, exact}
 use Rattle.run_model.proofs.Untouched.{prints_nothing}
+use Rattle.run_model.proofs.Counted.{same_report, counts_of_finish}
 use Rattle.text_run.proofs.Prepared.{beats, store_made, graphs_made}
-use Rattle.text_run.proofs.Made.{good_start, given_are, leave_made, made_store, has_edges, told_made}
-
-same_report : (a b : Report) → Answered a ≡ Answered b → a ≡ b
-same_report a b same = cc
+use Rattle.text_run.proofs.Made.{good_start, given_are, leave_made, made_store, storable, has_edges, told_made}
 
 same_limit : (a b : ℕ) → RoundLimit a ≡ RoundLimit b → a ≡ b
 same_limit a b same = cc
@@ -166,7 +165,7 @@ module _ {D M : Type 0} (state : D → DiskState) (lawful : (d : D) → IsDisk (
     }
 
   -- What is said by each finish.
-  cause_of : (ended : Finish) → RunsTo (rounds_of ended) → HasFinishCause faults meters call.after.meters call.write_faults call.write_faults_after ended → HasCause state faults job call (ending_of job.limit ended)
+  cause_of : (ended : Finish) → RunsTo (rounds_of ended) → HasFinishCause faults meters call.after.meters call.write_faults call.write_faults_after ended → HasCause state faults job call (ending_of job index ended)
   cause_of (finish.Answered done) runs caused = λ told is graphs tells. (
     unprepared state faults job call shut graphs tells,
     (accepted told is).0,
@@ -195,7 +194,7 @@ module _ {D M : Type 0} (state : D → DiskState) (lawful : (d : D) → IsDisk (
       let printed = front_answer state job (edges job told) done.round call.after.store.values.items well (edges_within job told) runs.store.values.all (λ e d below. (good.last.1 e d below).read) call.out call.out_after good.last.0 prints in
       record { printed = printed.printed; rest = printed.rest; prints = printed.prints; is_answer = printed.is_answer }
 
-  printed_of : (ended : Finish) → RunsTo (rounds_of ended) → Prints state (split_for job) call.after.store.values.items (shows_side job.program) ended call.out call.out_after → HasPrinted state job call (ending_of job.limit ended)
+  printed_of : (ended : Finish) → RunsTo (rounds_of ended) → Prints state (split_for job) call.after.store.values.items (shows_side job.program) ended call.out call.out_after → HasPrinted state job call (ending_of job index ended)
   printed_of (finish.Answered done) runs prints = whole_printed done runs prints
   printed_of (finish.NotWritten done) runs prints = front_printed done runs prints
   printed_of (finish.NotRead done) runs prints = λ told is graphs tells. inr (front_printed done runs prints told is graphs tells)
@@ -204,7 +203,7 @@ module _ {D M : Type 0} (state : D → DiskState) (lawful : (d : D) → IsDisk (
   printed_of (finish.Stopped (fault.Damaged part engine place)) runs prints = prints_nothing state job call prints
   printed_of (finish.Stopped fault.Memory) runs prints = prints_nothing state job call prints
 
-  stands_of : (ended : Finish) → RunsTo (rounds_of ended) → StandsAfter state job call (ending_of job.limit ended)
+  stands_of : (ended : Finish) → RunsTo (rounds_of ended) → StandsAfter state job call (ending_of job index ended)
   stands_of (finish.Answered done) runs = λ told is graphs tells. stored (Ok done) runs told is done.round (runs_well (Ok done) runs told is graphs tells).last.1
   stands_of (finish.NotWritten done) runs = λ told is graphs tells.
       let good = runs_well (Ok done) runs told is graphs tells in (done.round, good.last.0, stored (Ok done) runs told is done.round good.last.1)
@@ -214,12 +213,12 @@ module _ {D M : Type 0} (state : D → DiskState) (lawful : (d : D) → IsDisk (
   stands_of (finish.Stopped (fault.Damaged part engine place)) runs = tt
   stands_of (finish.Stopped fault.Memory) runs = tt
 
-  gone_of : (ended : Finish) (runs : RunsTo (rounds_of ended)) → HasGone job call.before.seat call.after.seat (ending_of job.limit ended) runs.epochs
+  gone_of : (ended : Finish) (runs : RunsTo (rounds_of ended)) → HasGone job call.before.seat call.after.seat (ending_of job index ended) runs.epochs
   gone_of (finish.Answered done) runs = record {
     through = runs.through;
     fronts = runs.fronts;
     whole = λ complete. runs.done.0;
-    reported = λ report is. subst (λ (r : Report). IsReportOf runs.epochs r) (same_report (report_of done) report is) (record { claims = runs.counts.0; admitted = runs.counts.1 });
+    reported = λ report is. subst (λ (r : Report). IsReportOf runs.epochs r) (same_report (report_of job index done) report is) (record { claims = runs.counts.0; admitted = runs.counts.1 });
   }
   gone_of (finish.NotWritten done) runs = record { through = runs.through; fronts = runs.fronts; whole = λ complete. runs.done.0; reported = λ report is. absurd (cc) }
   gone_of (finish.NotRead done) runs = record { through = runs.through; fronts = runs.fronts; whole = λ complete. runs.done.0; reported = λ report is. absurd (cc) }
@@ -239,13 +238,13 @@ module _ {D M : Type 0} (state : D → DiskState) (lawful : (d : D) → IsDisk (
     all_within = λ limit limited. absurd (not_limit limit limited);
   }
 
-  are_of : (ended : Finish) (runs : RunsTo (rounds_of ended)) (told : List ℕ) → call.text ≡ Some told → (graphs : List (List ℕ)) → Tells state call.before.store graphs → AreJobEpochs job (edges job told) Fresh (ending_of job.limit ended) runs.epochs
+  are_of : (ended : Finish) (runs : RunsTo (rounds_of ended)) (told : List ℕ) → call.text ≡ Some told → (graphs : List (List ℕ)) → Tells state call.before.store graphs → AreJobEpochs job (edges job told) Fresh (ending_of job index ended) runs.epochs
   are_of (finish.Answered done) runs told is graphs tells =
       let good = runs_well (Ok done) runs told is graphs tells in
       record {
         are = good.are;
-        last = λ report answered. subst (λ (r : Report). IsLastRound (rules_of job.program) job.vertices (edges job told) job.limit r.rounds) (same_report (report_of done) report answered) good.last.0;
-        all = λ report answered. subst (λ (r : Report). length runs.epochs ≡ epochs_to (rules_of job.program) Fresh r.rounds) (same_report (report_of done) report answered) runs.done.1;
+        last = λ report answered. subst (λ (r : Report). IsLastRound (rules_of job.program) job.vertices (edges job told) job.limit r.rounds) (same_report (report_of job index done) report answered) good.last.0;
+        all = λ report answered. subst (λ (r : Report). length runs.epochs ≡ epochs_to (rules_of job.program) Fresh r.rounds) (same_report (report_of job index done) report answered) runs.done.1;
         all_written = λ written last is_last. absurd (cc);
         all_within = λ limit limited. absurd (cc);
       }
@@ -258,7 +257,7 @@ module _ {D M : Type 0} (state : D → DiskState) (lawful : (d : D) → IsDisk (
         all_written = λ written last is_last. subst (λ (n : ℕ). length runs.epochs ≡ epochs_to (rules_of job.program) Fresh n) (last_is_one (rules_of job.program) job.vertices (edges job told) job.limit done.round last good.last.0 is_last) runs.done.1;
         all_within = λ limit limited. absurd (cc);
       }
-  are_of (finish.NotRead done) runs told is graphs tells = of_job (finish.NotRead done) runs (ending_of job.limit (finish.NotRead done)) (λ report answered. cc) (λ written. cc) (λ limit limited. cc) told is graphs tells
+  are_of (finish.NotRead done) runs told is graphs tells = of_job (finish.NotRead done) runs (ending_of job index (finish.NotRead done)) (λ report answered. cc) (λ written. cc) (λ limit limited. cc) told is graphs tells
   are_of (finish.Stopped fault.RoundLimit) runs told is graphs tells =
       let good = runs_well (Err fault.RoundLimit) runs told is graphs tells in
       record {
@@ -268,29 +267,36 @@ module _ {D M : Type 0} (state : D → DiskState) (lawful : (d : D) → IsDisk (
         all_written = λ written last is_last. absurd (cc);
         all_within = λ limit limited. subst (λ (n : ℕ). length runs.epochs ≡ epochs_to (rules_of job.program) Fresh n) (same_limit job.limit limit limited) (good.unsettled refl).1;
       }
-  are_of (finish.Stopped fault.DiskFault) runs told is graphs tells = of_job (finish.Stopped fault.DiskFault) runs (ending_of job.limit (finish.Stopped fault.DiskFault)) (λ report answered. cc) (λ written. cc) (λ limit limited. cc) told is graphs tells
+  are_of (finish.Stopped fault.DiskFault) runs told is graphs tells = of_job (finish.Stopped fault.DiskFault) runs (ending_of job index (finish.Stopped fault.DiskFault)) (λ report answered. cc) (λ written. cc) (λ limit limited. cc) told is graphs tells
   are_of (finish.Stopped (fault.Damaged part engine place)) runs told is graphs tells =
-      of_job (finish.Stopped (fault.Damaged part engine place)) runs (ending_of job.limit (finish.Stopped (fault.Damaged part engine place))) (λ report answered. cc) (λ written. cc) (λ limit limited. cc) told is graphs tells
-  are_of (finish.Stopped fault.Memory) runs told is graphs tells = of_job (finish.Stopped fault.Memory) runs (ending_of job.limit (finish.Stopped fault.Memory)) (λ report answered. cc) (λ written. cc) (λ limit limited. cc) told is graphs tells
+      of_job (finish.Stopped (fault.Damaged part engine place)) runs (ending_of job index (finish.Stopped (fault.Damaged part engine place))) (λ report answered. cc) (λ written. cc) (λ limit limited. cc) told is graphs tells
+  are_of (finish.Stopped fault.Memory) runs told is graphs tells = of_job (finish.Stopped fault.Memory) runs (ending_of job index (finish.Stopped fault.Memory)) (λ report answered. cc) (λ written. cc) (λ limit limited. cc) told is graphs tells
+
+  -- what the report counts
+  counts_of_text : (ended : Finish) (report : Report) → ending_of job index ended ≡ Answered report → OfText call.text (λ told. CountsChunks job (edges job told) report)
+  counts_of_text ended report is told told_is = subst (λ (given : List Edge). CountsChunks job given report)
+      (given_are state job well second call.text call.text_after call.before.beat now read call.before.store new index prepares lanes spills call.before.meters call.before.seat ready told told_is)
+      (counts_of_finish job prepares.made.0 index well (engine_counted job prepares.made.0 (storable state job well second call.text call.text_after call.before.beat now read call.before.store new index prepares lanes spills call.before.meters call.before.seat ready) index prepares.made.1.places) ended report is)
 
   -- **A run whose store was made**
   finished_run : (ended : Finish) → RunsTo (rounds_of ended) → Prints state (split_for job) call.after.store.values.items (shows_side job.program) ended call.out call.out_after
-      → HasFinishCause faults meters call.after.meters call.write_faults call.write_faults_after ended → IsRun state faults job call (ending_of job.limit ended)
+      → HasFinishCause faults meters call.after.meters call.write_faults call.write_faults_after ended → IsRun state faults job call (ending_of job index ended)
   finished_run ended runs prints caused =
       let cause = cause_of ended runs caused in
       record {
         cause = cause;
-        exact = exact state faults job call (unprepared state faults job call shut) (ending_of job.limit ended) cause;
+        exact = exact state faults job call (unprepared state faults job call shut) (ending_of job index ended) cause;
         printed = printed_of ended runs prints;
         all_read = λ answered told is. (accepted told is).1;
         epochs = runs.epochs;
         gone = gone_of ended runs;
         are = are_of ended runs;
+        counts = λ report is told told_is. counts_of_text ended report is told told_is;
         back = back (rounds_of ended) runs;
         stands = stands_of ended runs;
         stops = stops (rounds_of ended) runs;
       }
 
   pub finished_as : (ended : Finish) → RunsTo (rounds_of ended) → Prints state (split_for job) call.after.store.values.items (shows_side job.program) ended call.out call.out_after
-      → HasFinishCause faults meters call.after.meters call.write_faults call.write_faults_after ended → (ending : Ending) → ending ≡ ending_of job.limit ended → IsRun state faults job call ending
+      → HasFinishCause faults meters call.after.meters call.write_faults call.write_faults_after ended → (ending : Ending) → ending ≡ ending_of job index ended → IsRun state faults job call ending
   finished_as ended runs prints caused ending is = subst (λ (e : Ending). IsRun state faults job call e) (sym is) (finished_run ended runs prints caused)

@@ -20,7 +20,7 @@ use Rattle.run_model.specs.Standing.{StandsAfter}
 use Rattle.run_model.specs.Runs.{IsRun, MOST_BEATS}
 use Rattle.run_model.proofs.Going.{store_same}
 use Rattle.text_run.proofs.Causes.{prepared, exact_held, exact_interrupted}
-use Rattle.run_model.proofs.Untouched.{prints_nothing, gone_none, none_of_job}
+use Rattle.run_model.proofs.Untouched.{prints_nothing, gone_none, none_of_job, none_counted}
 use Rattle.text_run.proofs.Untouched.{leaves_untouched}
 
 -- a call that has touched nothing but the meters
@@ -69,6 +69,7 @@ module _ {D M : Type 0} (state : D → DiskState) (lawful : (d : D) → IsDisk (
     epochs = [];
     gone = gone_none job ending not_complete seat ready.between;
     are = λ text text_is graphs tells. none_of_job job ending not_complete (edges job text) Fresh;
+    counts = λ report answered text text_is. none_counted job ending not_complete (edges job text) report answered;
     back = back;
     stands = stands;
     stops = leaves_untouched state lawful job call ready.graphs.all refl refl;

@@ -54,7 +54,7 @@ module _ {D M : Type 0} (state : D → DiskState) (job : Job) (well : IsWellForm
   pub given_are : (told : List ℕ) → text ≡ Some told → prepares.made.0 ≡ edges job told
   given_are told is = subst (λ (x : Option (List ℕ)). IfSome x (λ bytes. prepares.made.0 ≡ edges job bytes)) is prepares.made.1.of_text
 
-  storable : IsStorable job prepares.made.0
+  pub storable : IsStorable job prepares.made.0
   storable = record {
     job_is = well;
     edges_are = All-weaker (IsEdgeOfText job) (IsEdgeOf job) (λ edge is. record { src = is.0; dst = is.1; weight = is.2; room = λ first. absurd (omega (arith, first, second)) }) prepares.made.0 prepares.made.1.within;

@@ -29,7 +29,7 @@ use Rattle.run_model.specs.Stops.{LeavesStores}
 use Rattle.run_model.specs.Runs.{IsRun, MOST_BEATS}
 use Rattle.text_run.specs.Refusals.{refusal}
 use Rattle.text_run.proofs.Causes.{of_some, unprepared, exact}
-use Rattle.run_model.proofs.Untouched.{prints_nothing, gone_none, none_of_job}
+use Rattle.run_model.proofs.Untouched.{prints_nothing, gone_none, none_of_job, none_counted}
 use Rattle.text_run.proofs.Prepared.{beats, store_made, ready_made}
 
 -- a call in which a store was begun, and no round
@@ -132,6 +132,7 @@ module _ {D M : Type 0} (state : D → DiskState) (faults : M → ℕ) (job : Jo
         epochs = [];
         gone = gone_none job (refusal (text_limit job.chunk) why) (not_complete (text_limit job.chunk) why) seat ready.between;
         are = λ told told_is devices tells. none_of_job job (refusal (text_limit job.chunk) why) (not_complete (text_limit job.chunk) why) (edges job told) Fresh;
+        counts = λ report answered told told_is. none_counted job (refusal (text_limit job.chunk) why) (not_complete (text_limit job.chunk) why) (edges job told) report answered;
         back = back;
         stands = stands_of state faults job call (text_limit job.chunk) why prepares.shut;
         stops = stops;

@@ -2,7 +2,6 @@
 ghost use Rattle.std.specs.Prelude.{◌≡◌, ℕ, ◌+◌, ◌^◌, ◌≤◌, List};
 ghost use Rattle.graph_model.specs.Jobs.{IsWellFormedJob};
 ghost use Rattle.graph_model.specs.EdgeText as text;
-ghost use Rattle.partitioner.specs.Splits.{IsSplit, IsSplitOf};
 ghost use Rattle.store_reader.specs.Devices.{SomeShut};
 ghost use Rattle.round_loop.specs.Keeping.{moment};
 ghost use Rattle.round_steps.specs.Going.{MetersGoOn};
@@ -14,8 +13,7 @@ use answer_lines::AnswerRoom;
 use chunk_cursor::{CursorSeat, CursorTable};
 use endings::Ending;
 use graph_model::Job;
-use job_run::run_job;
-use partitioner::Split;
+use job_run::{run_job, split_of};
 use ports::{Beat, Disk, Gate, Sink, Source};
 use round_loop::Start;
 use run_model::ending_of;
@@ -133,7 +131,7 @@ fn run_anew<R: Threads + Sync, S: Source, K: Sink, D: Disk, G: Gate + Sync>(
         &mut room,
         out,
     );
-    ending_of(finish, job.limit)
+    ending_of(finish, job, &index)
 }
 
 /// The ending by which it is told that a store was not made.
@@ -154,16 +152,4 @@ fn text_limit(chunk: u32) -> u64
     ensures { result ≡ text.text_limit chunk }
 {
     (1 << 40).min((1 << 31) * u64::from(chunk))
-}
-
-/// The split of a job.
-fn split_of(job: &Job) -> Split
-    requires { IsWellFormedJob job.now }
-    ensures split { IsSplit result }
-    ensures of_job { IsSplitOf job.now result }
-{
-    match Split::of(job.vertices, job.engines, job.most) {
-        Some(split) => split,
-        None => unreachable!(),
-    }
 }

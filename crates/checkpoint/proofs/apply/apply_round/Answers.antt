@@ -12,7 +12,7 @@ use Rattle.store_model.specs.Slots.{slot_of}
 use Rattle.checkpoint.specs.Applied.{sums_in, applied_on, changed_by}
 use Rattle.checkpoint.specs.SlotStates.{SameOther}
 use Rattle.checkpoint.specs.Storing.{WhileStoring}
-use Rattle.checkpoint.proofs.SlotSteps.{closing_on, keeps_other, not_yet, storing_on, other_while_storing, holds_now, same_other_then}
+use Rattle.checkpoint.proofs.SlotSteps.{closing_on, keeps_other, not_yet, storing_on, other_while_storing, open_now, holds_now, same_other_then}
 use Rattle.checkpoint.proofs.Partwise.{round_stands}
 use Rattle.checkpoint.proofs.apply.apply_round.Goals as goal
 
@@ -140,6 +140,13 @@ returns-clause-stored g c = λ devices read before told_devices told_read stands
           both.0,
       both.1,
     )
+
+pub returns-clause-opened : goal.returns-clause-opened
+returns-clause-opened g c =
+    let disks = g.met.D.Disk g.world.𝓛 g.world.𝓜 g.world.𝓡 ((λ s x. x), (λ x. x), (λ x. x), λ x. x) in
+    let context = c.args.context.now in
+    open_now (own_in context.split.now c.args.engine) (slot_of context.round) context.round c.in_ok-changed.changed context.beat.now (g.D.Disk.state c.write_partitions.new.disk) (g.D.Disk.state c.open_slot.new.disk)
+    (disks.lawful c.open_slot.new.disk) c.open_slot.ensures.any_moment c.in_ok-open_slot.ensures.opened
 
 pub returns-in_err-changed-clause-bytes : goal.returns-in_err-changed-clause-bytes
 returns-in_err-changed-clause-bytes g c =

@@ -16,6 +16,7 @@ returns g c =
       };
       stores = λ is_done. record {
         settled = done.settled is_done;
+        opened = done.opened is_done;
         holds = λ devices before tells. (done.stored is_done devices tells.read before tells.spilled tells.told tells.stands).0;
         counted = λ devices before tells. (done.stored is_done devices tells.read before tells.spilled tells.told tells.stands).1;
       };
