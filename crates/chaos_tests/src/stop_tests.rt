@@ -2,7 +2,7 @@
 use crate::call::call;
 use crate::contents::{Contents, after_run, before_last_round};
 use crate::faults::{Fault, Kind, Object};
-use crate::jobs::{DROP, ON_TWO, RESUME};
+use crate::jobs::{DROP, ON_TWO, ONE_EDGE, RESUME, Small};
 use crate::stops::{copies_of, is_resumed, pairs_in, stopped};
 use crate::world::{World, world_on};
 use mem_devices::MemDisk;
@@ -39,8 +39,14 @@ const PREPARED: Seen = Seen {
 };
 
 /// Goes on from what a stop left.
-fn look<R: Threads + Sync + Abort>(rt: &R, alloc: Global, held: &Contents, seen: &mut Seen) {
-    if is_resumed(rt, alloc, held) {
+fn look<R: Threads + Sync + Abort>(
+    rt: &R,
+    alloc: Global,
+    held: &Contents,
+    job: &Small,
+    seen: &mut Seen,
+) {
+    if is_resumed(rt, alloc, held, job) {
         seen.prepared = true;
     } else {
         seen.bare = true;
@@ -61,7 +67,7 @@ fn look_at_values<R: Threads + Sync + Abort>(
             values: copies_of(rt, alloc, values),
             lanes: Vec::new(alloc),
         };
-        look(rt, alloc, &held, seen);
+        look(rt, alloc, &held, &ON_TWO, seen);
     }
 }
 
@@ -135,21 +141,29 @@ fn a_store_that_is_given_up_is_whole_or_none(rt: HostRuntime) {
 fn stop_again<R: Threads + Sync + Abort>(rt: &R, alloc: Global, held: &Contents, engine: u32) {
     let object = Object::new(Kind::Values, 0, engine);
     for number in 1..100 {
-        let stops = stopped(rt, alloc, held, RESUME, &Fault { object, number });
+        let fault = Fault { object, number };
+        let stops = stopped(rt, alloc, held, &ONE_EDGE, RESUME, &fault);
         if stops.is_empty() {
             return;
         }
-        for stop in &stops {
-            assert!(rt; is_resumed(rt, alloc, stop));
-        }
+        let mut seen = NONE;
+        look_at(rt, alloc, &stops, &mut seen);
+        assert!(rt; seen == PREPARED, "call {number}");
     }
     assert!(rt; false, "a call never ends");
+}
+
+/// Goes on from what each stop left.
+fn look_at<R: Threads + Sync + Abort>(rt: &R, alloc: Global, stops: &[Contents], seen: &mut Seen) {
+    for stop in stops {
+        look(rt, alloc, stop, &ONE_EDGE, seen);
+    }
 }
 
 /// Goes on from what each stop left, and stops again.
 fn look_again<R: Threads + Sync + Abort>(rt: &R, alloc: Global, stops: &[Contents]) {
     for stop in stops {
-        if is_resumed(rt, alloc, stop) {
+        if is_resumed(rt, alloc, stop, &ONE_EDGE) {
             stop_again(rt, alloc, stop, 0);
             stop_again(rt, alloc, stop, 1);
         }
@@ -161,7 +175,8 @@ fn stop_twice<R: Threads + Sync + Abort>(rt: &R, alloc: Global, kind: Kind, engi
     let object = Object::new(kind, 0, engine);
     let held = Contents::empty(alloc);
     for number in 1..100 {
-        let stops = stopped(rt, alloc, &held, ON_TWO.run, &Fault { object, number });
+        let fault = Fault { object, number };
+        let stops = stopped(rt, alloc, &held, &ONE_EDGE, ONE_EDGE.run, &fault);
         if stops.is_empty() {
             return;
         }

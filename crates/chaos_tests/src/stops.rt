@@ -2,7 +2,7 @@
 use crate::call::{call, call_at};
 use crate::contents::{Contents, bytes_of, contents_of};
 use crate::faults::{Fault, Kind, Object};
-use crate::jobs::{ON_TWO, RESUME};
+use crate::jobs::{RESUME, Small};
 use crate::world::{World, world_on};
 use engine_gate::OpenGate;
 use mem_devices::MemDisk;
@@ -98,17 +98,18 @@ pub(crate) fn stopped<R: Threads + Sync + Abort>(
     rt: &R,
     alloc: Global,
     held: &Contents,
+    job: &Small,
     words: &str,
     fault: &Fault,
 ) -> Vec<Contents> {
     let mut world = world_on(rt, alloc, 2, held, fault);
-    let told = call_at(rt, alloc, &mut world, words, ON_TWO.text, &OpenGate, fault);
+    let told = call_at(rt, alloc, &mut world, words, job.text, &OpenGate, fault);
     let mut stops = Vec::new(alloc);
     if told.status == 0 {
         return stops;
     }
     assert!(rt; told.is(3, told.out.written(), b"disk fault\n"));
-    assert!(rt; ON_TWO.answer.starts_with(told.out.written()));
+    assert!(rt; job.answer.starts_with(told.out.written()));
     for image in last_images(rt, alloc, &world, fault.object) {
         let stop = with_image(rt, alloc, &world, fault.object, image);
         stops.push(stop).expect(rt, "room");
@@ -157,11 +158,12 @@ pub(crate) fn is_resumed<R: Threads + Sync + Abort>(
     rt: &R,
     alloc: Global,
     held: &Contents,
+    job: &Small,
 ) -> bool {
     let mut world = world_on(rt, alloc, 2, held, &Fault::NONE);
     let told = call(rt, alloc, &mut world, RESUME, b"");
     if told.status == 0 {
-        assert!(rt; told.is(0, ON_TWO.answer, b""));
+        assert!(rt; told.is(0, job.answer, b""));
         return true;
     }
     assert!(rt; told.is(8, b"", b"store is not prepared\n"));

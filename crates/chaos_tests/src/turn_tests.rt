@@ -1,5 +1,6 @@
 // Calls in turn on one store, and calls on a store whose bytes were written by hand.
 use crate::contents::{Contents, set_byte};
+use crate::faults::Kind;
 use crate::rows::expect_turns;
 use crate::stores::whole_store;
 use std::alloc::Global;
@@ -125,27 +126,30 @@ graph 0 0;run bfs 0 --vertices 4;0 1/1 2/;0;0 0/1 1/2 2/3 -/;";
     }
 }
 
+/// The whole store, with one device cut to so many bytes.
+fn cut_store(rt: &impl Abort, alloc: Global, kind: Kind, size: usize) -> Contents {
+    let mut held = whole_store(rt, alloc);
+    let devices = match kind {
+        Kind::Graph => &mut held.graphs,
+        _ => &mut held.values,
+    };
+    let bytes = devices.first_mut().expect(rt, "a device");
+    bytes.truncate(size);
+    held
+}
+
 #[test]
 fn short_devices_are_told(rt: HostRuntime) {
     let alloc = rt.alloc();
-    let mut held = whole_store(&rt, alloc);
-    held.graphs[0].truncate(108);
-    expect_turns(
-        &rt,
-        alloc,
-        &held,
-        "resume;;10;;graph 0 is damaged at byte 65/",
-    );
-    held.graphs[0].truncate(64);
-    expect_turns(&rt, alloc, &held, "resume;;8;;store is not prepared/");
-    let mut held = whole_store(&rt, alloc);
-    held.values[0].truncate(143);
-    expect_turns(
-        &rt,
-        alloc,
-        &held,
-        "resume;;10;;values 0 is damaged at byte 0/",
-    );
+    let held = cut_store(&rt, alloc, Kind::Graph, 108);
+    let row = "resume;;10;;graph 0 is damaged at byte 65/";
+    expect_turns(&rt, alloc, &held, row);
+    let held = cut_store(&rt, alloc, Kind::Graph, 64);
+    let row = "resume;;8;;store is not prepared/";
+    expect_turns(&rt, alloc, &held, row);
+    let held = cut_store(&rt, alloc, Kind::Values, 143);
+    let row = "resume;;10;;values 0 is damaged at byte 0/";
+    expect_turns(&rt, alloc, &held, row);
 }
 
 #[test]
