@@ -10,7 +10,11 @@ mod changing;
 #[cfg(test)]
 mod changing_tests;
 #[cfg(test)]
+mod contents;
+#[cfg(test)]
 mod engine_tests;
+#[cfg(test)]
+mod fault_tests;
 #[cfg(test)]
 mod faults;
 #[cfg(test)]
@@ -18,6 +22,16 @@ mod jobs;
 #[cfg(test)]
 mod row_tests;
 #[cfg(test)]
+mod rows;
+#[cfg(test)]
+mod stop_tests;
+#[cfg(test)]
+mod stops;
+#[cfg(test)]
+mod stores;
+#[cfg(test)]
 mod stream_tests;
+#[cfg(test)]
+mod turn_tests;
 #[cfg(test)]
 mod world;

@@ -1,44 +1,12 @@
 // Whole calls over texts in memory; what they must print was worked out by hand.
-//
-// A row has the words, the text, the status, what is printed and what is said, between semicolons. In texts `/` stands
-// for a line feed, `~` for a tab and `^` for a carriage return.
 use crate::call::{call, words_of};
+use crate::rows::expect_row;
 use crate::world::new_world;
 use job_words::wanted;
 use std::alloc::Global;
 use std::process::Abort;
 use std::test::*;
 use std::thread::Threads;
-
-fn bytes_of(rt: &impl Abort, alloc: Global, shown: &str) -> Vec<u8> {
-    let mut bytes = Vec::new(alloc);
-    for byte in shown.as_bytes() {
-        let byte = match byte {
-            b'/' => b'\n',
-            b'~' => b'\t',
-            b'^' => b'\r',
-            other => *other,
-        };
-        bytes.push(byte).expect(rt, "room");
-    }
-    bytes
-}
-
-/// The call of a row, on empty devices of so many engines as its words want.
-fn expect_row<R: Threads + Sync + Abort>(rt: &R, alloc: Global, row: &str) {
-    let columns: Vec<&str> = row.split(';').collect(alloc).expect(rt, "room");
-    let [words, text, status, printed, message] = columns.as_slice() else {
-        panic!(rt; "a row has five columns");
-    };
-    let text = bytes_of(rt, alloc, text);
-    let printed = bytes_of(rt, alloc, printed);
-    let message = bytes_of(rt, alloc, message);
-    let engines = wanted(alloc, &words_of(rt, alloc, words)).expect(rt, "room");
-    let mut world = new_world(rt, alloc, engines);
-    let told = call(rt, alloc, &mut world, words, &text);
-    assert!(rt; status.parse() == Ok(told.status), "{row}");
-    assert!(rt; told.is(told.status, &printed, &message), "{row}");
-}
 
 fn expect_rows<R: Threads + Sync + Abort>(rt: &R, alloc: Global, rows: &str) {
     for row in rows.lines() {
