@@ -63,6 +63,6 @@ fn refuse<E: Sink>(fault: OpenFault, err: &mut E) -> u8 {
         OpenFault::Failed => Ending::DiskFault,
         OpenFault::Memory => Ending::Memory,
     };
-    tell(&ending, err);
+    tell(&ending, false, err);
     ending.status()
 }

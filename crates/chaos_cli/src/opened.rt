@@ -1,5 +1,5 @@
 //! All that a call of the program is handed but its streams.
-ghost use Rattle.std.specs.Prelude.{◌≡◌, map, string_bytes, IfOk};
+ghost use Rattle.std.specs.Prelude.{map, string_bytes, IfOk};
 ghost use Rattle.job_words.specs.Commands.{command_of, engines_of};
 ghost use Rattle.chaos_cli.specs.Files.{IsOpened};
 

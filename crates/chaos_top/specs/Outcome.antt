@@ -1,5 +1,5 @@
 -- **What a call of the program promises, by its words.**
-use Rattle.std.specs.Prelude.{◌≡◌, ◌⊎◌, ℕ, [], true, false, Option, Some, None}
+use Rattle.std.specs.Prelude.{◌≡◌, ◌⊎◌, ℕ, Bool, false, [], Option, Some, None}
 use Rattle.ports.specs.Disk.{DiskState}
 use Rattle.graph_model.specs.declared.job.Job.{Job}
 use Rattle.job_words.specs.declared.command.Command.{Command}
@@ -9,18 +9,17 @@ use Rattle.endings.specs.declared.ending.Ending.TheVariants.{Usage, Memory}
 use Rattle.run_model.specs.Calls.{Call}
 use Rattle.run_model.specs.Printing.{Prints}
 use Rattle.run_model.specs.Runs.{IsRun}
+use Rattle.bench_run.specs.Benches.{IsBench}
 use Rattle.store_resume.specs.Resumes.{IsResume}
 use Rattle.store_drop.specs.Drops.{IsDrop}
 
--- the commands that are served; the others are answered as refused words
-abbrev pub served : Option Command → Option Command
-served (Some (Run job false)) = Some (Run job false)
-served (Some (Run job true)) = None
-served (Some (Bench job scale edges rng)) = None
-served (Some (Resume engines false)) = Some (Resume engines false)
-served (Some (Resume engines true)) = None
-served (Some (Discard engines)) = Some (Discard engines)
-served None = None
+-- whether a report is asked for
+abbrev pub reports : Option Command → Bool
+reports (Some (Run job report)) = report
+reports (Some (Bench job scale edges rng)) = false
+reports (Some (Resume engines report)) = report
+reports (Some (Discard engines)) = false
+reports None = false
 
 module _ {D M : Type 0} (state : D → DiskState) (faults : M → ℕ) (call : Call D M) where
   -- words that are refused: nothing was read, printed, or done to the store
@@ -32,7 +31,8 @@ module _ {D M : Type 0} (state : D → DiskState) (faults : M → ℕ) (call : C
 
   -- of words that are refused, and of each command. A further command is a further field.
   pub record IsOutcome (command : Option Command) (ending : Ending) : Type 0 where
-    pub refusal : served command ≡ None → IsRefusal ending
-    pub run : (job : Job) → served command ≡ Some (Run job false) → IsRun state faults job call ending
-    pub resume : (engines : ℕ) → served command ≡ Some (Resume engines false) → IsResume state faults call engines ending
-    pub drop : (engines : ℕ) → served command ≡ Some (Discard engines) → IsDrop state faults call engines ending
+    pub refusal : command ≡ None → IsRefusal ending
+    pub run : (job : Job) (report : Bool) → command ≡ Some (Run job report) → IsRun state faults job call ending
+    pub bench : (job : Job) (scale edges rng : ℕ) → command ≡ Some (Bench job scale edges rng) → IsBench state faults job scale edges rng call ending
+    pub resume : (engines : ℕ) (report : Bool) → command ≡ Some (Resume engines report) → IsResume state faults call engines ending
+    pub drop : (engines : ℕ) → command ≡ Some (Discard engines) → IsDrop state faults call engines ending

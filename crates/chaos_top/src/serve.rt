@@ -1,13 +1,14 @@
 // What each command does.
-ghost use Rattle.std.specs.Prelude.{◌≡◌, ℕ, ◌+◌, ◌^◌, ◌≤◌, List, map, string_bytes};
-ghost use Rattle.job_words.specs.Commands.{command_of, engines_of};
+ghost use Rattle.std.specs.Prelude.{◌≡◌, ℕ, ◌+◌, ◌^◌, ◌≤◌, List, Some};
+ghost use Rattle.job_words.specs.Commands.{IsInRanges, engines_of};
 ghost use Rattle.round_loop.specs.Keeping.{moment};
 ghost use Rattle.run_model.specs.Calls.{IsReady};
 ghost use Rattle.chaos_top.specs.Outcome.{IsOutcome};
 
+use bench_run::run_bench;
 use chunk_cursor::{CursorSeat, CursorTable};
 use endings::Ending;
-use job_words::{Command, WordFault, job_of};
+use job_words::Command;
 use ports::{Beat, Disk, Gate, Sink, Source};
 use std::alloc::Global;
 use std::thread::Threads;
@@ -16,11 +17,11 @@ use store_reader::Store;
 use store_resume::resume_store;
 use text_run::run_text;
 
-/// Does what the words ask for, or refuses them.
+/// Does what a command asks for.
 pub(crate) fn serve<R: Threads + Sync, S: Source, K: Sink, D: Disk, G: Gate + Sync>(
     rt: &R,
     alloc: Global,
-    words: &[String],
+    command: &Command,
     source: &mut S,
     out: &mut K,
     store: &mut Store<D>,
@@ -30,12 +31,12 @@ pub(crate) fn serve<R: Threads + Sync, S: Source, K: Sink, D: Disk, G: Gate + Sy
     gate: &G,
     beat: &mut Beat,
 ) -> Ending
-    requires ready { IsReady D.state (engines_of (command_of (map string_bytes words.now))) (moment store.old meters.old.items seat.old.view beat.old) }
+    requires ranges { IsInRanges command.now }
+    requires ready { IsReady D.state (engines_of (Some command.now)) (moment store.old meters.old.items seat.old.view beat.old) }
     requires table { seat.old.table ≡ table.now }
     requires beat { beat.old ≤ 2 ^ 63 + 1 }
     ensures table { seat.new.table ≡ seat.old.table }
-    // Whatever the ending, a further call may be made of a command of as many engines.
-    ensures ready { IsReady D.state (engines_of (command_of (map string_bytes words.now))) (moment store.new meters.new.items seat.new.view beat.new) }
+    ensures ready { IsReady D.state (engines_of (Some command.now)) (moment store.new meters.new.items seat.new.view beat.new) }
     ensures outcome { IsOutcome D.state D.M.faults (record {
       text = S.left source.old;
       text_after = S.left source.new;
@@ -47,22 +48,23 @@ pub(crate) fn serve<R: Threads + Sync, S: Source, K: Sink, D: Disk, G: Gate + Sy
       write_faults_after = K.faults out.new;
       before = moment store.old meters.old.items seat.old.view beat.old;
       after = moment store.new meters.new.items seat.new.view beat.new;
-    }) (command_of (map string_bytes words.now)) result }
+    }) (Some command.now) result }
 {
-    match job_of(alloc, words) {
-        Ok(Command::Run { job, report: false }) => run_text(
-            rt, alloc, &job, source, out, store, meters, table, seat, gate, beat,
+    match command {
+        Command::Run { job, .. } => run_text(
+            rt, alloc, job, source, out, store, meters, table, seat, gate, beat,
         ),
-        Ok(
-            Command::Resume {
-                engines,
-                report: false,
-            },
-        ) => resume_store(
-            rt, alloc, engines, out, store, meters, table, seat, gate, beat,
+        Command::Bench {
+            job,
+            scale,
+            edges,
+            rng,
+        } => run_bench(
+            rt, alloc, job, *scale, *edges, *rng, out, store, meters, table, seat, gate, beat,
         ),
-        Ok(Command::Discard { engines }) => give_up(engines, store, meters, beat),
-        Ok(_) | Err(WordFault::Usage) => Ending::Usage,
-        Err(WordFault::Memory) => Ending::Memory,
+        Command::Resume { engines, .. } => resume_store(
+            rt, alloc, *engines, out, store, meters, table, seat, gate, beat,
+        ),
+        Command::Discard { engines } => give_up(*engines, store, meters, beat),
     }
 }

@@ -1,5 +1,5 @@
 // Whole runs on devices in memory.
-ghost use Rattle.std.specs.Prelude.{◌≡◌, ℕ, ◌≤◌, length, vec_len};
+ghost use Rattle.std.specs.Prelude.{◌≡◌, ℕ, ◌≤◌, vec_len};
 ghost use Rattle.std.specs.List.{All};
 ghost use Rattle.graph_model.specs.Jobs.{IsWellFormedJob, IsWellFormedProgram};
 ghost use Rattle.mem_devices.specs.MemDisk.{disk_state};

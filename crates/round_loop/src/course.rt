@@ -1,5 +1,5 @@
 //! A run in its course: the first round, one round more, and when to end.
-ghost use Rattle.std.specs.Prelude.{◌≡◌, ℕ, ◌+◌, ◌-◌, ◌^◌, ◌<◌, ◌≤◌, Bool, true, false, nat_lt, ◌≢◌, None, Err, MatchResult, vec_len, vec_capacity};
+ghost use Rattle.std.specs.Prelude.{◌≡◌, ◌+◌, ◌-◌, ◌^◌, ◌<◌, ◌≤◌, true, false, nat_lt, ◌≢◌, None, Err, MatchResult, vec_len, vec_capacity};
 ghost use Rattle.graph_model.specs.Programs.{Rules};
 ghost use Rattle.epoch_seats.specs.Between.{IsBetweenEpochs};
 ghost use Rattle.round_steps.specs.Crews.{AreCrews};

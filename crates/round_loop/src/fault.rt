@@ -1,5 +1,5 @@
 //! Why a run has ended before its last round.
-ghost use Rattle.std.specs.Prelude.{◌≡◌, IfErr, OnOk, OnErr};
+ghost use Rattle.std.specs.Prelude.{◌≡◌, IfErr, OnOk};
 ghost use Rattle.round_loop.specs.Answers.{IsFaultOf};
 ghost use Rattle.round_loop.specs.declared.fault.RoundFault.TheVariants as fault;
 

@@ -1,13 +1,10 @@
 -- What apply on all engines says of a store.
-use Rattle.std.proofs.Common.{◌≡◌, ◌⊎◌, inl, inr, ℕ, zero, suc, ◌+◌, ◌-◌, ◌<◌, ◌≤◌, false, Option, Some, None, List, [], ◌∷◌, length, map, refl, sym, ◌∙◌, ap, subst, arith, slice_index, slice_index_or}
-use Rattle.std.specs.List.{All, range_with_len}
+use Rattle.std.proofs.Common.{◌≡◌, ◌⊎◌, inl, inr, ℕ, ◌-◌, ◌<◌, ◌≤◌, false, List, length, map, sym, ◌∙◌, subst, arith, slice_index, slice_index_or}
 use Rattle.std.proofs.lemmas.List.{get_or-map, length-map}
 use Rattle.graph_model.specs.declared.edge.Edge.{Edge}
 use Rattle.graph_model.specs.declared.value.Value.{Value}
-use Rattle.graph_model.specs.Programs.{Rules}
 use Rattle.graph_model.specs.Rounds.{values}
 use Rattle.gather_laws.specs.Laws.{HaveRoom}
-use Rattle.partitioner.specs.declared.split.Split.{Split}
 use Rattle.ports.specs.Disk.{DiskState}
 use Rattle.ports.specs.Faults.{Rose}
 use Rattle.ports.proofs.Told.{told_on}
@@ -21,7 +18,7 @@ use Rattle.apply_round.specs.Crew.{OneRose, EndsByCauses}
 use Rattle.apply_round.specs.Made.{AreMerged, made}
 use Rattle.apply_round.specs.Applying.{RoundTerms, AppliesToEach, StoresOnEach, MakesRound}
 use Rattle.apply_round.specs.Applying as applying
-use Rattle.round_steps.specs.Going.{AreDevices, KeepsOthers, MetersGoOn, MeterRose}
+use Rattle.round_steps.specs.Going.{KeepsOthers, MetersGoOn, MeterRose}
 use Rattle.round_steps.specs.Standing.{IsSound, StandsBefore, ValuesStand}
 use Rattle.round_steps.specs.Rounds.{StoresRound}
 

@@ -1,11 +1,11 @@
 -- How counts go on, worker by worker.
-use Rattle.std.proofs.Common.{◌≡◌, ◌⊎◌, inl, inr, ℕ, zero, suc, ◌+◌, ◌<◌, ◌≤◌, List, [], ◌∷◌, length, map, refl, sym, ◌∙◌, ap, subst, arith, slice_index_or, Option, Some}
+use Rattle.std.proofs.Common.{◌≡◌, ◌⊎◌, inl, inr, ℕ, zero, suc, ◌<◌, ◌≤◌, List, [], ◌∷◌, length, map, refl, ◌∙◌, ap, subst, arith, slice_index_or, Option, Some}
 use Rattle.std.specs.List.{All}
 use Rattle.std.proofs.lemmas.List.{get_or_default}
 use Rattle.ports.specs.Disk.{DiskState}
 use Rattle.ports.specs.Faults.{Rose}
 use Rattle.update_lanes.specs.Lanes.{GoOn, OneRose}
-use Rattle.gather_epoch.specs.Gathering.{GoesOn, SomeCountRose, RoseOfOne}
+use Rattle.gather_epoch.specs.Gathering.{GoesOn, RoseOfOne}
 use Rattle.round_steps.specs.Going.{MetersGoOn, MeterRose, Tell}
 
 pub any_of : {A : Type 0} (xs : List A) (place : ℕ) → place < length xs → A

@@ -1,8 +1,8 @@
 -- What all workers have gathered, when all are done.
-use Rattle.std.proofs.Common.{◌≡◌, ◌≢◌, ℕ, zero, suc, ◌+◌, ◌<◌, ◌≤◌, true, false, Option, Some, None, List, [], ◌∷◌, length, map, replicate, refl, sym, ◌∙◌, ap, subst, arith, slice_index_or}
+use Rattle.std.proofs.Common.{◌≡◌, ◌≢◌, ℕ, zero, suc, ◌+◌, ◌<◌, true, false, Option, Some, None, List, [], ◌∷◌, length, map, replicate, refl, sym, ◌∙◌, ap, arith, slice_index_or}
 use Rattle.std.proofs.Math.Path.{fun_ext}
 use Rattle.std.specs.List.{All, range_with_len}
-use Rattle.std.proofs.lemmas.List.{length-map, get_or-map}
+use Rattle.std.proofs.lemmas.List.{length-map}
 use Rattle.graph_model.specs.declared.edge.Edge.{Edge}
 use Rattle.graph_model.specs.declared.value.Update.{Update}
 use Rattle.graph_model.specs.Programs.{Rules}
@@ -10,18 +10,17 @@ use Rattle.graph_model.specs.Rounds.{merged, out_degree}
 use Rattle.partitioner.specs.declared.split.Split.{Split}
 use Rattle.ports.specs.Disk.{DiskState}
 use Rattle.chunk_object.specs.declared.call.Call.{Call}
-use Rattle.chunk_object.specs.Epochs.{Epoch, list_of}
+use Rattle.chunk_object.specs.Epochs.{list_of}
 use Rattle.chunk_cursor.specs.declared.view.View.{View}
 use Rattle.chunk_model.specs.Layout.{edge_layout, update_layout}
 use Rattle.phase_model.specs.Shelves.{Shelf, records_at}
 use Rattle.phase_model.specs.Taken.{records_taken}
-use Rattle.phase_model.specs.Sums.{sum_at, counts_of}
 use Rattle.phase_model.proofs.Counted as degrees
 use Rattle.store_reader.specs.declared.store.Outcome.{Outcome}
 use Rattle.store_reader.specs.declared.store.Outcome.TheVariants.{Done, DiskFault, Damaged, Memory}
 use Rattle.store_reader.specs.Indexed.{HasRecords}
 use Rattle.replica_merge.specs.declared.replicas.Replicas.{Replicas}
-use Rattle.replica_merge.specs.Accumulators.{split_of, unit_of, place_of, len_of, accumulators_at, accumulators_of, IsUnspilled, LiesWithin}
+use Rattle.replica_merge.specs.Accumulators.{split_of, unit_of, place_of, len_of, accumulators_at, accumulators_of, IsUnspilled}
 use Rattle.gather_phase.specs.declared.desk.GatherContext.{GatherContext}
 use Rattle.gather_phase.specs.Gathered.{over_partition}
 use Rattle.gather_phase.specs.Phases.{Takes, MayStopBy}

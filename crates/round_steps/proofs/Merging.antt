@@ -1,5 +1,5 @@
 -- From what each worker has for a vertex to the merge over all workers.
-use Rattle.std.proofs.Common.{◌≡◌, ℕ, zero, suc, ◌+◌, ◌<◌, List, [], ◌∷◌, length, map, refl, sym, ◌∙◌, ap, arith, slice_index, slice_index_or, Option, Some}
+use Rattle.std.proofs.Common.{◌≡◌, ℕ, suc, ◌+◌, ◌<◌, List, [], ◌∷◌, length, map, refl, ◌∙◌, ap, arith, slice_index, slice_index_or, Option, Some}
 use Rattle.std.proofs.lemmas.List.FromFn.{get_or-map-range_with_len}
 use Rattle.graph_model.specs.Partitions.{first_vertex}
 use Rattle.graph_model.specs.Programs.{Rules}

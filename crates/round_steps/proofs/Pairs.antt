@@ -1,8 +1,7 @@
 -- The two epochs of a round together.
-use Rattle.std.proofs.Common.{◌≡◌, ℕ, zero, suc, ◌+◌, ◌-◌, ◌<◌, ◌≤◌, Bool, true, false, if◌then◌else◌, Option, Some, None, List, [], ◌∷◌, length, map, refl, sym, ◌∙◌, ap, subst, arith, slice_index_or}
+use Rattle.std.proofs.Common.{◌≡◌, ℕ, zero, suc, ◌+◌, ◌-◌, ◌<◌, ◌≤◌, Bool, true, false, Option, List, [], ◌∷◌, length, map, refl, sym, ◌∙◌, ap, subst, arith, slice_index_or}
 use Rattle.std.specs.Prelude.{Vec}
 use Rattle.std.specs.Global.{Global}
-use Rattle.std.specs.List.{All}
 use Rattle.std.proofs.lemmas.List.Elements.{All-nil, All-cons}
 use Rattle.graph_model.specs.declared.edge.Edge.{Edge}
 use Rattle.graph_model.specs.declared.value.Value.{Value}
@@ -13,12 +12,11 @@ use Rattle.graph_model.specs.Programs.{Rules}
 use Rattle.graph_model.specs.Rounds.{IsWithinGraph, of_vertices, value_at, values}
 use Rattle.partitioner.specs.declared.split.Split.{Split}
 use Rattle.ports.specs.Disk.{DiskState}
-use Rattle.chunk_object.specs.Epochs.{Terms, Epoch, TakesEachOnce}
+use Rattle.chunk_object.specs.Epochs.{Epoch, TakesEachOnce}
 use Rattle.chunk_object.specs.History.{most_chunks}
 use Rattle.chunk_cursor.specs.declared.view.View.{View}
 use Rattle.chunk_file.specs.declared.index.Place.{Place}
 use Rattle.phase_model.specs.JobTerms.{terms_of}
-use Rattle.phase_model.specs.Lanes.{all_updates}
 use Rattle.phase_model.specs.Shelves as shelves
 use Rattle.replica_merge.specs.declared.replicas.Replicas.{Replicas}
 use Rattle.store_reader.specs.Indexed.{lens_of}
@@ -30,7 +28,7 @@ use Rattle.round_steps.specs.Epochs.{IsWhole, HasFewChunks}
 use Rattle.round_steps.specs.Going.{Tell, RowsTell, RowsGoOn}
 use Rattle.round_steps.specs.Standing.{IsBefore}
 use Rattle.round_steps.specs.Rounds.{MakesEpochs, HasSums, earlier_values}
-use Rattle.round_steps.specs.Updates.{HasSent, Scatters, Stand, IsIdle, Gathers}
+use Rattle.round_steps.specs.Updates.{HasSent, Stand, IsIdle, Gathers}
 use Rattle.round_steps.proofs.Through.{through_one, through_two}
 use Rattle.round_steps.proofs.Begun.{whole_one, few_of}
 use Rattle.round_steps.proofs.Counts.{tell_still}

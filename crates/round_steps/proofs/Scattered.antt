@@ -1,5 +1,5 @@
 -- A scatter epoch, in words of the store and of the job.
-use Rattle.std.proofs.Common.{◌≡◌, ◌≢◌, ◌⊎◌, inl, inr, ℕ, suc, ◌+◌, ◌-◌, ◌<◌, ◌≤◌, ◌^◌, Bool, true, false, if◌then◌else◌, Option, Some, None, List, [], ◌∷◌, length, map, refl, sym, ◌∙◌, ap, subst, arith, slice_index_or}
+use Rattle.std.proofs.Common.{◌≡◌, ◌≢◌, ◌⊎◌, inl, inr, ℕ, ◌-◌, ◌<◌, ◌≤◌, Bool, if◌then◌else◌, Option, Some, None, List, length, map, sym, ◌∙◌, ap, subst, arith, slice_index_or}
 use Rattle.std.specs.Prelude.{Vec}
 use Rattle.std.specs.Global.{Global}
 use Rattle.graph_model.specs.declared.edge.Edge.{Edge}
@@ -17,7 +17,7 @@ use Rattle.store_model.specs.Slots.{slot_of}
 use Rattle.store_reader.specs.declared.store.Outcome.{Outcome}
 use Rattle.store_reader.specs.declared.store.Outcome.TheVariants.{Done, DiskFault, Damaged, Memory}
 use Rattle.store_reader.specs.Indexed.{HasRecords}
-use Rattle.update_lanes.specs.Lanes.{GoOn, OneRose}
+use Rattle.update_lanes.specs.Lanes.{OneRose}
 use Rattle.scatter_phase.specs.declared.desk.ScatterContext.{ScatterContext}
 use Rattle.scatter_phase.specs.Phases.{MayStopBy}
 use Rattle.scatter_phase.specs.Values.{HoldValues, HoldBefore}
@@ -27,8 +27,8 @@ use Rattle.scatter_epoch.specs.Scattering.{HaveScattered, RoseOfOne}
 use Rattle.epoch_laws.specs.Phases.{edge_shelf, sending_in, sent_in}
 use Rattle.round_steps.specs.Going.{AreDevices, AreRows, RowsGoOn, RowRose, MeterRose}
 use Rattle.round_steps.specs.Rounds.{earlier_values}
-use Rattle.round_steps.specs.Standing.{IsSound, HasEdges, ValuesStand}
-use Rattle.round_steps.specs.Updates.{HasSent, Scatters}
+use Rattle.round_steps.specs.Standing.{IsSound, HasEdges}
+use Rattle.round_steps.specs.Updates.{Scatters}
 use Rattle.round_steps.proofs.Counts.{any_of, at_any}
 use Rattle.round_steps.proofs.Holding.{hold_last, hold_earlier}
 

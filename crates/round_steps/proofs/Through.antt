@@ -1,6 +1,5 @@
 -- The seat goes through epochs, one after the other.
-use Rattle.std.proofs.Common.{◌≡◌, ℕ, suc, ◌+◌, ◌*◌, List, [], ◌∷◌, ◌++◌, length, flat_map, refl, sym, ◌∙◌, ap, subst, arith, append_assoc, length-append}
-use Rattle.std.specs.List.{count_by}
+use Rattle.std.proofs.Common.{◌≡◌, ℕ, ◌+◌, List, [], ◌∷◌, ◌++◌, length, flat_map, sym, ◌∙◌, ap, subst, arith, append_assoc, length-append}
 use Rattle.std.proofs.lemmas.List.{append-nil}
 use Rattle.std.proofs.lemmas.List.Concat.{flat_map-append}
 use Rattle.chunk_object.proofs.Covered.{count_by-append}
@@ -9,7 +8,7 @@ use Rattle.chunk_object.specs.Epochs.{Terms, Epoch, all_calls, epoch_entries, ep
 use Rattle.chunk_object.specs.History.{StandsWhole}
 use Rattle.chunk_cursor.specs.declared.view.View.{View}
 use Rattle.phase_model.specs.Taken.{claims, admissions, taken_in, is_admission}
-use Rattle.epoch_seats.specs.Between.{IsBetweenEpochs, HasEnded}
+use Rattle.epoch_seats.specs.Between.{IsBetweenEpochs}
 use Rattle.epoch_seats.specs.Made.{HasMadeEpoch}
 use Rattle.round_steps.specs.Epochs.{GoesThrough}
 

@@ -1,5 +1,5 @@
 -- A gather epoch, in words of the lanes.
-use Rattle.std.proofs.Common.{◌≡◌, ◌≢◌, ◌⊎◌, inl, inr, ℕ, ◌<◌, ◌≤◌, Bool, true, false, List, length, map, refl, sym, ◌∙◌, ap, subst, arith}
+use Rattle.std.proofs.Common.{◌≡◌, ◌≢◌, ◌⊎◌, inl, inr, ℕ, Bool, false, List, length, sym, ◌∙◌, subst}
 use Rattle.std.specs.Prelude.{Vec}
 use Rattle.std.specs.Global.{Global}
 use Rattle.graph_model.specs.declared.value.Update.{Update}
@@ -14,7 +14,6 @@ use Rattle.update_lanes.specs.Lanes.{GoOn}
 use Rattle.gather_phase.specs.declared.desk.GatherContext.{GatherContext}
 use Rattle.gather_phase.specs.Phases.{Takes, MayStopBy}
 use Rattle.gather_epoch.specs.declared.crew.Gathered.{Gathered}
-use Rattle.gather_epoch.specs.Gathering.{HaveGathered, IsNotBegun}
 use Rattle.scatter_epoch.specs.Sent.{IsOfRows}
 use Rattle.round_steps.specs.Standing.{IsSound}
 use Rattle.round_steps.specs.Updates.{Stand, IsIdle, Gathers}

@@ -1,6 +1,5 @@
 -- The epochs of a step, one after the other.
 use Rattle.std.specs.Prelude.{◌≡◌, ⊤, ℕ, ◌+◌, ◌*◌, ◌≤◌, List, [], ◌∷◌, ◌++◌, length, flat_map}
-use Rattle.std.specs.List.{All}
 use Rattle.chunk_object.specs.Epochs.{Terms, Epoch, TakesEachOnce, all_calls, epochs_entries}
 use Rattle.chunk_object.specs.Duty.{MeetsDuty}
 use Rattle.chunk_object.specs.History.{StandsWhole, most_chunks}

@@ -1,5 +1,5 @@
 -- What a step of a run makes.
-use Rattle.std.specs.Prelude.{◌≡◌, ◌⊎◌, ℕ, ◌+◌, ◌-◌, ◌<◌, ◌≤◌, Bool, true, None, Some, if◌then◌else◌, Option, List, length, slice_index_or}
+use Rattle.std.specs.Prelude.{◌≡◌, ℕ, ◌-◌, ◌<◌, ◌≤◌, Bool, None, Some, if◌then◌else◌, Option, List, length, slice_index_or}
 use Rattle.std.specs.List.{All, range_with_len}
 use Rattle.graph_model.specs.declared.edge.Edge.{Edge}
 use Rattle.graph_model.specs.declared.value.Value.{Value}

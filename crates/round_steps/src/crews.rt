@@ -1,5 +1,5 @@
 //! What the workers of all rounds have at hand.
-ghost use Rattle.std.specs.Prelude.{◌≡◌, ◌≤◌, IfOk, All, vec_len, vec_capacity};
+ghost use Rattle.std.specs.Prelude.{◌≡◌, IfOk, All, vec_len};
 ghost use Rattle.graph_model.specs.Jobs.{IsWellFormedJob};
 ghost use Rattle.partitioner.specs.Splits.{IsSplit, IsSplitOf};
 ghost use Rattle.replica_merge.specs.Accumulators.{split_of};

@@ -1,5 +1,5 @@
 //! Round 0.
-ghost use Rattle.std.specs.Prelude.{◌≡◌, ◌⊎◌, ℕ, ◌+◌, ◌-◌, ◌^◌, ◌<◌, ◌≤◌, List, false, vec_len, vec_capacity};
+ghost use Rattle.std.specs.Prelude.{◌≡◌, ℕ, ◌+◌, ◌-◌, ◌^◌, ◌<◌, ◌≤◌, List, false, vec_len, vec_capacity};
 ghost use Rattle.graph_model.specs.declared.edge.Edge.{Edge};
 ghost use Rattle.graph_model.specs.Jobs.{IsWellFormedJob};
 ghost use Rattle.partitioner.specs.Splits.{IsSplit, IsSplitOf};
@@ -7,7 +7,7 @@ ghost use Rattle.chunk_object.specs.History.{most_chunks};
 ghost use Rattle.store_reader.specs.Indexed.{lens_of};
 ghost use Rattle.epoch_seats.specs.Between.{IsBetweenEpochs};
 ghost use Rattle.round_steps.specs.Crews.{AreCrews};
-ghost use Rattle.round_steps.specs.Going.{MetersGoOn, IsStore, KeepsStore, SomeRose, RowsTell};
+ghost use Rattle.round_steps.specs.Going.{MetersGoOn, IsStore, KeepsStore, SomeRose};
 ghost use Rattle.round_steps.specs.Standing.{IsSound, HaveEdges, IsBefore};
 ghost use Rattle.round_steps.specs.Rounds.{StoresRound, MakesFirst};
 

@@ -1,7 +1,6 @@
 //! Runs on a store that was made, beside those of the plain engine.
 ghost use Rattle.std.specs.Prelude.{◌≡◌, ℕ, ◌≤◌, Some};
 ghost use Rattle.graph_model.specs.Jobs.{IsWellFormedJob};
-ghost use Rattle.partitioner.specs.Splits.{IsSplit};
 ghost use Rattle.mem_devices.specs.MemDisk.{disk_state};
 ghost use Rattle.chunk_object.specs.History.{most_chunks};
 ghost use Rattle.store_reader.specs.Indexed.{lens_of};

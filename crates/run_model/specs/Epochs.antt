@@ -15,7 +15,7 @@ use Rattle.round_loop.specs.Starts.{first_sent, counts_first, epochs_to}
 use Rattle.round_loop.specs.Opening.{AreEpochsOf}
 use Rattle.endings.specs.declared.ending.Report.{Report}
 use Rattle.endings.specs.declared.ending.Ending.{Ending}
-use Rattle.endings.specs.declared.ending.Ending.TheVariants.{Answered, Dropped, Usage, BadLine, DiskFault, RoundLimit, Memory, ReadFault, WriteFault, NotPrepared, EnginesDiffer, Damaged, TooLong, StoreHolds}
+use Rattle.endings.specs.declared.ending.Ending.TheVariants.{Answered, RoundLimit, WriteFault}
 
 -- the rounds were made to their end
 abbrev pub IsComplete : Ending → Type 0

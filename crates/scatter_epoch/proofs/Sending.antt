@@ -17,7 +17,6 @@ use Rattle.partitioner.specs.declared.split.Split.{Split}
 use Rattle.partitioner.specs.Splits.{IsSplit, IsSplitOf}
 use Rattle.partitioner.proofs.Made.{some_part}
 use Rattle.ports.specs.Disk.{DiskState}
-use Rattle.chunk_object.specs.declared.call.Call.{Call}
 use Rattle.chunk_object.specs.Epochs.{cursor_of}
 use Rattle.chunk_object.specs.History.{most_chunks}
 use Rattle.chunk_cursor.specs.Hold.{Hold}
@@ -46,7 +45,7 @@ use Rattle.scatter_phase.specs.declared.desk.ScatterContext.{ScatterContext}
 use Rattle.scatter_phase.specs.declared.desk.ScatterDesk.{ScatterDesk}
 use Rattle.scatter_phase.specs.Scattered.{HasScattered}
 use Rattle.scatter_phase.specs.Values.{HoldValues, HoldBefore}
-use Rattle.scatter_epoch.specs.Joining.{places_at, all_places, HasNoLong, IsIndexOf}
+use Rattle.scatter_epoch.specs.Joining.{places_at, all_places, IsIndexOf}
 use Rattle.scatter_epoch.specs.Dealing.{seat_at, lanes_at, places_on, number_at}
 use Rattle.scatter_epoch.specs.Desks.{IsContext}
 use Rattle.scatter_epoch.specs.Sent.{RowsTell, IsOfRows, HaveSent}

@@ -1,5 +1,5 @@
 -- The chunks of a worker's lanes and their places, side by side.
-use Rattle.std.proofs.Common.{◌≡◌, ℕ, zero, suc, ◌+◌, ◌*◌, ◌<◌, ◌≤◌, ◌==◌, ◌&&◌, Bool, true, false, cond, List, [], ◌∷◌, ◌++◌, length, map, filter, take, flat_map, sum_by, refl, sym, ◌∙◌, ap, subst, arith, get_or, eq-eqb, append_assoc, zero-add, length-append}
+use Rattle.std.proofs.Common.{◌≡◌, ℕ, suc, ◌+◌, ◌*◌, ◌<◌, ◌==◌, ◌&&◌, Bool, true, false, List, [], ◌∷◌, ◌++◌, length, map, filter, take, sum_by, refl, sym, ◌∙◌, ap, subst, arith, eq-eqb, append_assoc, zero-add, length-append}
 use Rattle.std.specs.List.{All, enumerate_from}
 use Rattle.std.proofs.lemmas.Bool.{and_parts, eqb-true, eqb-false, ne_eqb}
 use Rattle.std.proofs.lemmas.List.{take_at, map-append, get_or_at}
@@ -10,7 +10,7 @@ use Rattle.graph_model.specs.declared.value.Update.{Update}
 use Rattle.chunk_object.specs.Epochs.{cursor_of}
 use Rattle.chunk_model.specs.Chunks.{Chunk}
 use Rattle.chunk_model.specs.Layout.{update_layout}
-use Rattle.chunk_model.specs.ChunkBytes.{StandsAt, chunk_bytes, bytes_of_chunks, chunk_width}
+use Rattle.chunk_model.specs.ChunkBytes.{StandsAt, chunk_bytes, bytes_of_chunks}
 use Rattle.chunk_model.proofs.LayoutLaws.{update_layout_is}
 use Rattle.chunk_model.proofs.OnDevice.{length-chunk_bytes, appended_stands}
 use Rattle.seeded_place.specs.Placing.{on_engine}

@@ -1,39 +1,34 @@
 -- The chunks of all workers and their places.
-use Rattle.std.proofs.Common.{◌≡◌, ℕ, zero, suc, ◌+◌, ◌*◌, ◌/◌, ◌%◌, ◌<◌, ◌≤◌, ◌==◌, ◌&&◌, Bool, false, List, [], ◌∷◌, ◌++◌, length, map, filter, take, Option, Some, refl, sym, ◌∙◌, ap, subst, arith, get_or, append_assoc, add-zero, length-append, length-take-le}
-use Rattle.std.specs.Prelude.{Vec, slice_get, option_and_then, IfSome}
+use Rattle.std.proofs.Common.{◌≡◌, ℕ, zero, suc, ◌+◌, ◌*◌, ◌/◌, ◌<◌, ◌≤◌, ◌==◌, ◌&&◌, false, List, [], ◌∷◌, ◌++◌, length, map, filter, take, refl, sym, ◌∙◌, ap, subst, arith, get_or, append_assoc, add-zero, length-take-le}
+use Rattle.std.specs.Prelude.{Vec}
 use Rattle.std.specs.Global.{Global}
 use Rattle.std.specs.List.{All, enumerate_from}
-use denote.Ref.{Bor}
 use Rattle.std.proofs.Math.Nat.{mod-lt}
-use Rattle.std.proofs.lemmas.Bool.{lt-ltb, eqb-true, ne_eqb}
-use Rattle.std.proofs.lemmas.Option.{slice_get-get_or}
-use Rattle.std.proofs.lemmas.List.{append-nil, map-append, get_or_past, length-map, take_more}
-use Rattle.std.proofs.lemmas.List.Elements.{filter-append, All-append, All-map, All-filter}
+use Rattle.std.proofs.lemmas.Bool.{lt-ltb, ne_eqb}
+use Rattle.std.proofs.lemmas.List.{append-nil, map-append, length-map, take_more}
+use Rattle.std.proofs.lemmas.List.Elements.{filter-append, All-append, All-map}
 use Rattle.graph_model.specs.declared.value.Update.{Update}
 use Rattle.graph_model.specs.declared.job.Job.{Job}
-use Rattle.graph_model.specs.Jobs.{IsWellFormedJob, parts_of, span_of}
+use Rattle.graph_model.specs.Jobs.{IsWellFormedJob, parts_of}
 use Rattle.partitioner.specs.declared.split.Split.{Split}
 use Rattle.partitioner.specs.Splits.{IsSplitOf}
 use Rattle.partitioner.proofs.Ranges.{partition_of-below}
-use Rattle.ports.specs.Disk.{DiskState}
 use Rattle.chunk_object.specs.Epochs.{cursor_of}
 use Rattle.chunk_model.specs.Chunks.{Chunk, IsChunkOf}
-use Rattle.chunk_model.specs.Layout.{update_layout, update_fits, holds_update}
-use Rattle.chunk_model.specs.ChunkBytes.{AreChunk, Belongs}
+use Rattle.chunk_model.specs.Layout.{update_layout}
+use Rattle.chunk_model.specs.ChunkBytes.{AreChunk}
 use Rattle.chunk_model.proofs.Made.{chunks_are}
 use Rattle.chunk_model.proofs.Counted.{chunks_within}
-use Rattle.seeded_place.specs.Placing.{on_engine, placed, engine_of, update_stream}
+use Rattle.seeded_place.specs.Placing.{on_engine, engine_of, update_stream}
 use Rattle.phase_model.specs.declared.placed.Placed.{Placed}
-use Rattle.phase_model.specs.Shelves.{Shelf, at_cursor, width_of_chunks, places_of, no_chunk}
+use Rattle.phase_model.specs.Shelves.{Shelf, at_cursor, width_of_chunks, places_of}
 use Rattle.phase_model.specs.Shelves as shelves
 use Rattle.phase_model.specs.Lanes.{update_home, update_chunks, update_shelf, all_updates}
 use Rattle.chunk_file.specs.declared.index.Place.{Place}
-use Rattle.chunk_file.specs.Chunks.{IsChunkIn}
-use Rattle.update_lanes.specs.Lanes.{AreWritten, HasChunks}
 use Rattle.update_lanes.specs.Outgoing.{FitsJob}
 use Rattle.scatter_epoch.specs.Joining.{places_at, all_places}
 use Rattle.scatter_epoch.proofs.Pairs.{Paired, paired-append}
-use Rattle.scatter_epoch.proofs.Walks.{walk, places_walk, paired_walk, chunk_stands, all_at}
+use Rattle.scatter_epoch.proofs.Walks.{places_walk, paired_walk}
 
 -- what is placed keeps what it is
 placed_from : {Y : Type 0} (P : ℕ × Y → Type 0) (f : ℕ → ℕ) (n : ℕ) (ys : List Y) → ((k : ℕ) (y : Y) → P (f k, y)) → All P (map (λ (numbered : ℕ × Y). (f numbered.0, numbered.1)) (enumerate_from n ys))

@@ -1,5 +1,5 @@
 -- The edges that are read of a chunk are those that stand there.
-use Rattle.std.proofs.Common.{◌≡◌, ℕ, ◌%◌, ◌+◌, ◌*◌, ◌^◌, ◌<◌, ◌≤◌, IfSome, List, length, take, sym, ◌∙◌, subst, arith}
+use Rattle.std.proofs.Common.{◌≡◌, ℕ, ◌^◌, ◌<◌, IfSome, List, length, take, sym, subst, arith}
 use Rattle.graph_model.specs.declared.edge.Edge.{Edge}
 use Rattle.ports.specs.Disk.{DiskState}
 use Rattle.chunk_object.specs.Epochs.{cursor_of}

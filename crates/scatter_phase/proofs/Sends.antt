@@ -1,5 +1,5 @@
 -- What the edges of a chunk send under the values of their partition is what they send under those of all vertices.
-use Rattle.std.proofs.Common.{◌≡◌, ℕ, ◌+◌, ◌-◌, ◌/◌, ◌<◌, ◌≤◌, cond, Option, Some, None, List, [], ◌∷◌, ◌++◌, length, take, get_or, map, refl, sym, ◌∙◌, ap, subst, arith, nat_lt}
+use Rattle.std.proofs.Common.{◌≡◌, ℕ, ◌+◌, ◌-◌, ◌/◌, ◌<◌, ◌≤◌, Bool, cond, Option, Some, None, List, [], ◌∷◌, ◌++◌, length, take, refl, sym, ◌∙◌, ap, subst, arith, nat_lt}
 use Rattle.std.specs.Prelude.{◌&&◌, Result, Ok, Err, IfErr, OnOk, OnErr}
 use Rattle.std.specs.List.{All}
 use Rattle.std.proofs.lemmas.Bool.{and_parts, ltb-true}
@@ -28,10 +28,10 @@ use Rattle.update_lanes.specs.declared.lanes.LaneFault.TheVariants.{DiskFault}
 use Rattle.update_lanes.specs.declared.outgoing.Outgoing.{Outgoing}
 use Rattle.update_lanes.specs.Lanes.{OneRose}
 use Rattle.update_lanes.specs.Outgoing.{SendsOn, StopsOn}
-use Rattle.update_lanes.specs.Sending.{IsFrom, value_from, sending_all}
+use Rattle.update_lanes.specs.Sending.{IsFrom, AreChanges, value_from, sending_all}
 use Rattle.scatter_phase.specs.declared.desk.ScatterRoom.{ScatterRoom}
 use Rattle.scatter_phase.specs.Values.{values_in, HoldValues, HoldBefore}
-use Rattle.scatter_phase.specs.Phases.{IsSet, IsSetBefore}
+use Rattle.scatter_phase.specs.Phases.{IsSet, IsSetBefore, AreMarkedSince}
 use Rattle.scatter_phase.specs.Sending.{sending_from, sending_in}
 
 -- a vertex of a partition is in its range
@@ -93,6 +93,15 @@ pub changed_in : (rules : Rules) (split : Split) (p count first end s : ℕ) (sl
     → sent_by (sending_from rules first (Some s) (take (end - first) before) (take (end - first) now)) (take count es) ≡ sent_by (sending_in rules split p slot room) (take count room.edges.items)
 changed_in rules split p count first end s slot room es before now some first_is end_is es_is before_is now_is =
     λ i. sent_by (sending_from rules (first_is i) (sym some i) (take (end_is i - first_is i) (before_is i)) (take (end_is i - first_is i) (now_is i))) (take count (es_is i))
+
+-- and which vertices changed
+pub marked_in : (split : Split) (p first end s : ℕ) (slot : Option ℕ) (room : ScatterRoom) (now : List Value) (changed : List Bool)
+    → slot ≡ Some s → first ≡ first_vertex split.vertices split.parts p → end ≡ first_vertex split.vertices split.parts (p + 1) → now ≡ room.now.items → changed ≡ room.changed.items
+    → AreMarkedSince split slot p room → AreChanges (take (end - first) room.before.items) (take (end - first) now) (take (end - first) changed)
+marked_in split p first end s slot room now changed some first_is end_is now_is changed_is marked =
+    subst (λ n. AreChanges (take n room.before.items) (take n now) (take n changed)) (λ i. sym end_is i - sym first_is i)
+    (subst (λ xs. AreChanges (take (len_in split p) room.before.items) (take (len_in split p) xs) (take (len_in split p) changed)) (sym now_is)
+    (subst (λ bs. AreChanges (take (len_in split p) room.before.items) (take (len_in split p) room.now.items) (take (len_in split p) bs)) (sym changed_is) (marked s some)))
 
 module _ {X : Type 0} (state : X → DiskState) (number : ℕ) (old new : Outgoing) (places noted : List Placed) where
   -- the lanes are as many as before, whatever the answer

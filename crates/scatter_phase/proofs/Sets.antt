@@ -1,5 +1,5 @@
 -- The values of a partition, as they were read from a slot.
-use Rattle.std.proofs.Common.{◌≡◌, ℕ, ◌+◌, ◌*◌, ◌^◌, ◌<◌, ◌≤◌, zero, suc, Option, Some, IfSome, List, [], ◌∷◌, ◌++◌, length, take, drop, get_or, map, refl, sym, ◌∙◌, ap, subst, arith}
+use Rattle.std.proofs.Common.{◌≡◌, ℕ, ◌+◌, ◌*◌, ◌^◌, ◌<◌, ◌≤◌, zero, suc, Some, IfSome, List, [], ◌∷◌, ◌++◌, length, take, drop, get_or, refl, sym, ◌∙◌, ap, subst, arith}
 use Rattle.std.specs.Prelude.{slice_get, option_and_then, Result, Ok, Err, OnOk}
 use Rattle.std.specs.Int.{to_be_bytes, from_be_bytes, w64}
 use Rattle.std.specs.List.{All}
@@ -17,7 +17,7 @@ use Rattle.partitioner.specs.declared.split.Split.{Split}
 use Rattle.partitioner.specs.Splits.{IsSplit, IsSplitOf}
 use Rattle.store_model.specs.Slots.{value_bytes, values_bytes, set_bytes}
 use Rattle.store_reader.specs.Reading.{own_in, master_in, len_in, before_in}
-use Rattle.scatter_phase.specs.Values.{values_in, told_of, HoldValues}
+use Rattle.scatter_phase.specs.Values.{values_in, HoldValues}
 use Rattle.scatter_phase.specs.Phases.{IsSet}
 
 -- the numbers of a value are below 2^64

@@ -1,9 +1,8 @@
 -- What a worker has sent, chunk by chunk.
-use Rattle.std.proofs.Common.{◌≡◌, ◌≢◌, ℕ, ◌+◌, ◌*◌, ◌-◌, ◌^◌, ◌<◌, ◌≤◌, Option, Some, None, List, [], ◌∷◌, ◌++◌, length, take, map, inl, inr, ◌⊎◌, ⊎_elim, refl, sym, ◌∙◌, ap, subst, arith, length-append, append-nil}
+use Rattle.std.proofs.Common.{◌≡◌, ◌≢◌, ℕ, ◌+◌, ◌*◌, ◌<◌, ◌≤◌, Some, None, List, [], ◌∷◌, ◌++◌, length, map, inl, inr, ◌⊎◌, ⊎_elim, refl, sym, ◌∙◌, ap, subst, arith, length-append, append-nil}
 use Rattle.std.specs.List.{All}
 use Rattle.std.proofs.lemmas.Grind.{flat_map-append}
 use Rattle.graph_model.specs.declared.edge.Edge.{Edge}
-use Rattle.graph_model.specs.declared.value.Value.{Value}
 use Rattle.graph_model.specs.declared.value.Update.{Update}
 use Rattle.graph_model.specs.declared.job.Job.{Job}
 use Rattle.graph_model.specs.Programs.{Rules}
@@ -11,11 +10,10 @@ use Rattle.ports.specs.Disk.{DiskState}
 use Rattle.ports.specs.Faults.{Rose}
 use Rattle.partitioner.specs.declared.split.Split.{Split}
 use Rattle.partitioner.specs.Splits.{IsSplitOf}
-use Rattle.chunk_object.specs.declared.call.Call.TheVariants.{Took, Exhausted}
 use Rattle.chunk_object.specs.declared.call.Call.{Call}
 use Rattle.chunk_object.specs.declared.call.Entry.{Entry}
 use Rattle.chunk_cursor.specs.declared.view.View.{View}
-use Rattle.chunk_cursor.specs.View.{with_call, with_calls, MayTake}
+use Rattle.chunk_cursor.specs.View.{with_calls, MayTake}
 use Rattle.chunk_model.specs.Layout.{edge_layout}
 use Rattle.chunk_file.specs.Chunks.{AreChunkIn}
 use Rattle.phase_model.specs.declared.placed.Placed.{Placed}
@@ -34,16 +32,14 @@ use Rattle.worker_duty.specs.declared.acts.Step.TheVariants as step
 use Rattle.worker_duty.specs.Views.{taken_by_seat, IsReady}
 use Rattle.worker_duty.specs.Working.{HasTaken, HasClaimed}
 use Rattle.worker_duty.proofs.Elsewhere.{taken-more}
-use Rattle.worker_duty.proofs.Cursors.{taken_here-more, taken_here-none}
 use Rattle.store_reader.specs.declared.store.Outcome.TheVariants.{Done, DiskFault}
 use Rattle.scatter_phase.specs.declared.desk.ScatterContext.{ScatterContext}
 use Rattle.scatter_phase.specs.declared.desk.ScatterDesk.{ScatterDesk}
 use Rattle.scatter_phase.specs.declared.desk.ScatterRoom.{ScatterRoom}
 use Rattle.scatter_phase.specs.Rooms.{IsRoom}
-use Rattle.scatter_phase.specs.Values.{HoldValues, HoldBefore}
-use Rattle.scatter_phase.specs.Phases.{GoesOn, IsSet, IsSetBefore, AreLoaded, AreWithin, IsOpen, HasSentOf, DeskHolds, DeskStops}
+use Rattle.scatter_phase.specs.Phases.{GoesOn, IsSet, IsSetBefore, AreMarked, AreLoaded, AreWithin, IsOpen, HasSentOf, DeskHolds, DeskStops}
 use Rattle.scatter_phase.specs.Scattered.{HasFaultCause}
-use Rattle.scatter_phase.specs.Sending.{KeepsBuffers, sending_in, Scatters, StopsAt, HasSentFor}
+use Rattle.scatter_phase.specs.Sending.{KeepsBuffers, sending_in, HasSentFor}
 use Rattle.scatter_phase.proofs.Counts.{no_more, one_more, within_as}
 use Rattle.scatter_phase.proofs.Sends.{edges_from, sends_as_all}
 
@@ -60,7 +56,14 @@ room_after job old new kept same room is = record {
   bytes = ap (λ v. length v.items) kept.bytes ∙ is.bytes;
   now = ap (λ v. length v.items) kept.now ∙ is.now;
   before = ap (λ v. length v.items) kept.before ∙ is.before;
+  changed = ap (λ v. length v.items) kept.changed ∙ is.changed;
 }
+
+-- marks stay where the buffers do
+marks_kept : (split : Split) (p : ℕ) (old new : ScatterRoom) → KeepsBuffers old new → AreMarked split p old.before.items old.now.items old.changed.items → AreMarked split p new.before.items new.now.items new.changed.items
+marks_kept split p old new kept marked =
+    subst (λ v. AreMarked split p v.items new.now.items new.changed.items) (sym kept.before)
+    (subst (λ v. AreMarked split p old.before.items v.items new.changed.items) (sym kept.now) (subst (λ v. AreMarked split p old.before.items old.now.items v.items) (sym kept.changed) marked))
 
 later_rose : (a b d : ℕ) → a ≤ b → Rose b d → Rose a d
 later_rose a b d later rose = omega (arith, later, rose)
@@ -98,8 +101,11 @@ module _ {P D G M : Type 0} (rules : P → Rules) (state : D → DiskState) (c :
   -- what is loaded stays where the buffers do
   pub loaded_kept : (old new : ScatterRoom) → KeepsBuffers old new → AreLoaded rules state c old → AreLoaded rules state c new
   loaded_kept old new kept loaded = λ p is.
-      let there = loaded p (sym kept.loaded ∙ is) in
-      (subst (λ v. IsSet state c.serving.split.now c.values.now c.slot p v.items) (sym kept.now) there.0, subst (λ v. IsSetBefore state c.serving.split.now c.values.now c.before p v.items) (sym kept.before) there.1)
+      let there = loaded p (sym kept.loaded ∙ is) in (
+        subst (λ v. IsSet state c.serving.split.now c.values.now c.slot p v.items) (sym kept.now) there.0,
+        subst (λ v. IsSetBefore state c.serving.split.now c.values.now c.before p v.items) (sym kept.before) there.1,
+        λ s some. marks_kept c.serving.split.now p old new kept (there.2 s some),
+      )
 
   -- what was sent does not depend on the rest of the desk
   pub same_sent : (old new : ScatterDesk D M) (chunks : List (ℕ × ℕ)) → new.worker ≡ old.worker → new.room.outgoing ≡ old.room.outgoing → new.lanes ≡ old.lanes → new.places ≡ old.places → HasSentOf rules state c old chunks → HasSentOf rules state c new chunks

@@ -1,5 +1,5 @@
 -- What a scatter phase says of the desks of its workers.
-use Rattle.std.specs.Prelude.{◌≡◌, ◌⊎◌, ⊤, ℕ, ◌*◌, ◌≤◌, Option, Some, List, length, take}
+use Rattle.std.specs.Prelude.{◌≡◌, ◌⊎◌, ⊤, ℕ, ◌*◌, ◌≤◌, Bool, Option, Some, List, length, take}
 use Rattle.std.specs.List.{All}
 use Rattle.graph_model.specs.declared.edge.Edge.{Edge}
 use Rattle.graph_model.specs.declared.value.Value.{Value}
@@ -20,6 +20,7 @@ use Rattle.store_reader.specs.Indexed.{HasRecords}
 use Rattle.store_reader.specs.Reading.{len_in}
 use Rattle.update_lanes.specs.Lanes.{AreReady, GoOn, OneRose, IsWithin}
 use Rattle.update_lanes.specs.Outgoing.{HasSent, NoneFull}
+use Rattle.update_lanes.specs.Sending.{AreChanges}
 use Rattle.scatter_phase.specs.declared.desk.ScatterContext.{ScatterContext}
 use Rattle.scatter_phase.specs.declared.desk.ScatterDesk.{ScatterDesk}
 use Rattle.scatter_phase.specs.declared.desk.ScatterRoom.{ScatterRoom}
@@ -44,11 +45,19 @@ module _ {X : Type 0} (state : X → DiskState) (split : Split) (devices : List 
   abbrev pub IsSetBefore : (slot : Option ℕ) → (partition : ℕ) → List Value → Type 0
   IsSetBefore slot partition set = (s : ℕ) → slot ≡ Some s → IsSet s partition set
 
+-- the first of these marks, as many as the partition has vertices, tell which of the first values are other ones than before
+abbrev pub AreMarked : Split → (partition : ℕ) → (before now : List Value) → List Bool → Type 0
+AreMarked split partition before now changed = AreChanges (take (len_in split partition) before) (take (len_in split partition) now) (take (len_in split partition) changed)
+
+-- where there is a second slot
+abbrev pub AreMarkedSince : Split → (slot : Option ℕ) → (partition : ℕ) → ScatterRoom → Type 0
+AreMarkedSince split slot partition room = (s : ℕ) → slot ≡ Some s → AreMarked split partition room.before.items room.now.items room.changed.items
+
 module _ {P D G M : Type 0} (rules : P → Rules) (state : D → DiskState) (c : ScatterContext P D G M) where
-  -- the values of the partition that is loaded are in the room
+  -- the values of the partition that is loaded are in the room, and marks of those that changed
   abbrev pub AreLoaded : ScatterRoom → Type 0
   AreLoaded room = (partition : ℕ) → room.loaded ≡ Some partition
-      → IsSet state c.serving.split.now c.values.now c.slot partition room.now.items × IsSetBefore state c.serving.split.now c.values.now c.before partition room.before.items
+      → IsSet state c.serving.split.now c.values.now c.slot partition room.now.items × IsSetBefore state c.serving.split.now c.values.now c.before partition room.before.items × AreMarkedSince c.serving.split.now c.before partition room
 
   -- the places that are noted are on engines and in partitions of the split
   abbrev pub AreWithin : List Placed → Type 0

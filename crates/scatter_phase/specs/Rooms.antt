@@ -19,6 +19,7 @@ pub record IsRoom (job : Job) (room : ScatterRoom) : Type 0 where
   pub bytes : length room.bytes.items ≡ 8 + 16 * max job.chunk (span_of job)
   pub now : length room.now.items ≡ span_of job
   pub before : length room.before.items ≡ span_of job
+  pub changed : length room.changed.items ≡ span_of job
 
 -- one lane for each engine, to which nothing was written under a later beat
 pub record AreLanes {X : Type 0} (state : X → DiskState) (engines number : ℕ) (lanes : List X) : Type 0 where

@@ -24,6 +24,7 @@ pub record KeepsBuffers (old new : ScatterRoom) : Type 0 where
   pub edges : new.edges ≡ old.edges
   pub now : new.now ≡ old.now
   pub before : new.before ≡ old.before
+  pub changed : new.changed ≡ old.changed
   pub loaded : new.loaded ≡ old.loaded
 
 -- the sending from a partition that begins at this vertex, under these values: of all its vertices, or where there is a second slot of those that changed

@@ -67,6 +67,8 @@ pub struct ScatterRoom {
     /// The values of the round before in the partition that is loaded, and those of the round before that.
     pub(crate) now: Vec<Value>,
     pub(crate) before: Vec<Value>,
+    /// Of each vertex of that partition whether the two differ.
+    pub(crate) changed: Vec<bool>,
     /// The partition whose values are in memory.
     pub(crate) loaded: Option<u32>,
 }
@@ -95,6 +97,7 @@ impl ScatterRoom {
             edges: vec![in alloc; no_edge; chunk]?,
             now: vec![in alloc; no_value; span]?,
             before: vec![in alloc; no_value; span]?,
+            changed: vec![in alloc; false; span]?,
             loaded: None,
         })
     }

@@ -5,7 +5,7 @@ ghost use Rattle.ports.specs.Faults.{HasCause};
 ghost use Rattle.partitioner.specs.Splits.{IsSplit, IsSplitOf};
 ghost use Rattle.store_reader.specs.Reading.{len_in};
 ghost use Rattle.scatter_phase.specs.Rooms.{IsRoom, AreValueDevices, AreSlots};
-ghost use Rattle.scatter_phase.specs.Phases.{IsSet, AreLoaded};
+ghost use Rattle.scatter_phase.specs.Phases.{IsSet, AreMarked, AreLoaded};
 
 use crate::desk::{ScatterContext, ScatterRoom};
 use gather_laws::VertexProgram;
@@ -13,8 +13,9 @@ use graph_model::Value;
 use partitioner::Split;
 use ports::{Disk, Failed, Gate};
 use store_reader::read_set;
+use update_lanes::mark_changes;
 
-/// Reads the values of a partition in the slots of the phase, where they are not in memory.
+/// Reads the values of a partition in the slots of the phase, and notes which changed, where they are not in memory.
 pub(crate) fn load_values<P: VertexProgram, D: Disk, G: Gate>(
     context: &ScatterContext<P, D, G>,
     meter: &mut D::M,
@@ -52,9 +53,45 @@ pub(crate) fn load_values<P: VertexProgram, D: Disk, G: Gate>(
     if let Some(slot) = context.before {
         let (before, bytes) = (&mut room.before, &mut room.bytes);
         read_values(context.values, meter, split, partition, slot, bytes, before)?;
+        let (now, before, changed) = (&room.now, &room.before, &mut room.changed);
+        mark_values(split, partition, now, before, changed);
     }
     room.loaded = Some(partition);
     Ok(())
+}
+
+/// Notes for each vertex of a partition whether its value at the front of `now` is another one than before.
+fn mark_values(
+    split: &Split,
+    partition: u32,
+    now: &Vec<Value>,
+    before: &Vec<Value>,
+    changed: &mut Vec<bool>,
+)
+    requires split { IsSplit split.now }
+    requires partition { partition < split.now.parts }
+    requires now { len_in split.now partition ≤ length now.now.items }
+    requires before { len_in split.now partition ≤ length before.now.items }
+    requires changed { len_in split.now partition ≤ length changed.old.items }
+    ensures room { length changed.new.items ≡ length changed.old.items }
+    ensures marked { AreMarked split.now partition before.now.items now.now.items changed.new.items }
+{
+    mark_front(split, partition, now, before, changed)
+}
+
+/// The same in a slice.
+fn mark_front(split: &Split, partition: u32, now: &[Value], before: &[Value], changed: &mut [bool])
+    requires split { IsSplit split.now }
+    requires partition { partition < split.now.parts }
+    requires now { len_in split.now partition ≤ length now.now }
+    requires before { len_in split.now partition ≤ length before.now }
+    requires changed { len_in split.now partition ≤ length changed.old }
+    ensures room { length changed.new ≡ length changed.old }
+    ensures marked { AreMarked split.now partition before.now now.now changed.new }
+{
+    let (first, end) = split.range(partition);
+    let len = (end - first) as usize;
+    mark_changes(&now[..len], &before[..len], &mut changed[..len]);
 }
 
 /// Reads the values of a partition in a slot to the front of `into`. One call of a device.

@@ -7,7 +7,7 @@ ghost use Rattle.phase_model.specs.Sends.{sent_by};
 ghost use Rattle.update_lanes.specs.Lanes.{AreReady, OneRose};
 ghost use Rattle.update_lanes.specs.Outgoing.{NoneFull, SendsOn, StopsOn};
 ghost use Rattle.scatter_phase.specs.Rooms.{IsRoom, AreValueDevices, AreSlots};
-ghost use Rattle.scatter_phase.specs.Phases.{GoesOn, IsOpen};
+ghost use Rattle.scatter_phase.specs.Phases.{GoesOn, IsOpen, AreMarkedSince};
 ghost use Rattle.scatter_phase.specs.Sending.{HasSentFor, KeepsBuffers, sending_in};
 
 use crate::desk::{ScatterContext, ScatterDesk, ScatterRoom};
@@ -80,6 +80,7 @@ fn send_chunk<P: VertexProgram, D: Disk, G: Gate>(
     requires lanes { AreReady D.state room.old.outgoing.split.engines context.now.beat.now (length places.old.items) lanes.old.items }
     requires count { count ≤ length room.old.edges.items }
     requires edges { AreChunkIn (edge_layout context.now.serving.job.now.format) context.now.serving.split.now context.now.serving.job.now.chunk partition (take count room.old.edges.items) }
+    requires marked { AreMarkedSince context.now.serving.split.now context.now.before partition room.old }
     ensures kept { KeepsBuffers room.old room.new }
     ensures sends { OnOk result (SendsOn D.state context.now.beat.now room.old.outgoing room.new.outgoing lanes.old.items lanes.new.items places.old.items places.new.items
         (sent_by (sending_in (P.rules context.now.program.now) context.now.serving.split.now partition context.now.before room.old) (take count room.old.edges.items))) }
@@ -105,7 +106,7 @@ fn send_chunk<P: VertexProgram, D: Disk, G: Gate>(
             edges,
             first,
             &room.now[..len],
-            &room.before[..len],
+            &room.changed[..len],
             &mut room.outgoing,
             lanes,
             places,

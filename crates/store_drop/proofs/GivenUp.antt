@@ -1,5 +1,5 @@
 -- A store that was given up, or was not.
-use Rattle.std.proofs.Common.{◌≡◌, ◌∙◌, ◌⊎◌, inl, inr, ℕ, ◌+◌, ◌<◌, ◌≤◌, List, [], ◌∷◌, length, map, get_or, refl, sym, subst, arith}
+use Rattle.std.proofs.Common.{◌≡◌, ◌∙◌, ◌⊎◌, inl, inr, ℕ, ◌+◌, ◌<◌, ◌≤◌, List, [], ◌∷◌, length, map, get_or, sym, subst, arith}
 use Rattle.std.specs.Prelude.{Vec}
 use Rattle.std.specs.Global.{Global}
 use Rattle.std.specs.List.{All}
@@ -11,11 +11,9 @@ use Rattle.epoch_seats.specs.Between.{IsBetweenEpochs}
 use Rattle.restart.specs.Devices.{Each, OneRose, EachRow, OneRowRose}
 use Rattle.restart.specs.Dropping.{HandsBack}
 use Rattle.round_steps.specs.Going.{AreDevices, AreRows, MetersGoOn, MeterRose}
-use Rattle.store_reader.specs.declared.store.Store.{Store}
 use Rattle.endings.specs.declared.ending.Ending.{Ending}
 use Rattle.endings.specs.declared.ending.Ending.TheVariants.{Dropped, DiskFault}
 use Rattle.run_model.specs.Calls.{Call, IsReady, AnyRose}
-use Rattle.run_model.specs.Stops.{AtEachStop}
 use Rattle.store_drop.specs.Drops.{AllEmpty, HasDropCause, IsDrop}
 use Rattle.run_model.proofs.Going.{all_early}
 use Rattle.run_model.proofs.Untouched.{prints_none}

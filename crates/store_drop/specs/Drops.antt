@@ -1,5 +1,5 @@
 -- **What giving a store up promises.**
-use Rattle.std.specs.Prelude.{◌≡◌, ◌⊎◌, ℕ, ◌+◌, ◌≤◌, List, [], map}
+use Rattle.std.specs.Prelude.{◌≡◌, ◌⊎◌, ℕ, ◌+◌, ◌≤◌, [], map}
 use Rattle.std.specs.List.{All}
 use Rattle.ports.specs.Disk.{DiskState}
 use Rattle.ports.specs.Stops.{AreImages}

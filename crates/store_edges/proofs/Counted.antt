@@ -1,5 +1,5 @@
 -- How many places an engine has: as many as chunks.
-use Rattle.std.proofs.Common.{◌≡◌, ◌≢◌, ◌∙◌, inl, inr, ℕ, zero, suc, ◌+◌, ◌<◌, ◌≤◌, ◌==◌, cond, List, [], ◌∷◌, length, refl, ap, sym, arith, eq-eqb}
+use Rattle.std.proofs.Common.{◌≡◌, ◌≢◌, ◌∙◌, inl, inr, ℕ, zero, suc, ◌+◌, ◌<◌, ◌≤◌, cond, List, [], ◌∷◌, length, refl, ap, sym, arith, eq-eqb}
 use Rattle.std.specs.List.{All, sum_by, range_with_len}
 use Rattle.std.proofs.lemmas.Bool.{cases_eq, ne_eqb}
 use Rattle.std.proofs.lemmas.List.{length-map}
@@ -13,7 +13,6 @@ use Rattle.chunk_model.specs.Chunks.{Chunk, chunks_of_partition}
 use Rattle.chunk_model.specs.Layout.{edge_layout}
 use Rattle.chunk_file.specs.declared.index.Place.{Place}
 use Rattle.chunk_file.specs.Places.{places_of, on_graph}
-use Rattle.chunk_file.specs.Scans.{IsEdgeChunk}
 use Rattle.store_model.specs.Heads.{HEAD_SIZE, head}
 use Rattle.store_model.specs.Graphs.{edge_chunks, chunks_on, places_on}
 use Rattle.store_model.specs.Damage as damage

@@ -1,5 +1,5 @@
 -- A resume that made no round: the store was not recovered, or there was no memory.
-use Rattle.std.proofs.Common.{◌≡◌, ◌∙◌, ◌⊎◌, inl, inr, ℕ, ◌+◌, ◌<◌, ◌≤◌, List, [], length, map, true, refl, sym, ap, subst, arith}
+use Rattle.std.proofs.Common.{◌≡◌, ◌∙◌, inl, inr, ℕ, List, [], map, true, refl, sym, ap, subst, arith}
 use Rattle.ports.specs.Disk.{DiskState, IsDisk}
 use Rattle.ports.specs.Stops.{IsStop, AreImages}
 use Rattle.graph_model.specs.declared.edge.Edge.{Edge}

@@ -1,5 +1,5 @@
 -- A resume whose store was recovered, and whose rounds were run.
-use Rattle.std.proofs.Common.{◌≡◌, ◌∙◌, ◌⊎◌, inl, inr, ℕ, ◌+◌, ◌<◌, ◌≤◌, List, [], length, map, get_or, true, Some, Result, Ok, Err, refl, sym, ap, subst, arith}
+use Rattle.std.proofs.Common.{◌≡◌, ◌∙◌, ◌⊎◌, inl, inr, ℕ, ◌+◌, ◌<◌, ◌≤◌, List, length, map, get_or, true, Some, Result, Ok, Err, refl, sym, ap, subst, arith}
 use Rattle.std.specs.Prelude.{Vec}
 use Rattle.std.specs.Global.{Global}
 use Rattle.ports.specs.Disk.{DiskState, IsDisk, InEveryImage}
@@ -13,18 +13,16 @@ use Rattle.graph_model.specs.Answer.{NeverSettles}
 use Rattle.graph_model.proofs.RoundLemmas.{last_is_one}
 use Rattle.partitioner.specs.Splits.{IsSplitOf}
 use Rattle.answer_lines.specs.Printing.{PrintsAll, PrintsFront}
-use Rattle.chunk_file.specs.declared.index.Place.{Place}
 use Rattle.store_model.specs.Damage as damage
-use Rattle.store_model.specs.Damage.{HasFault}
 use Rattle.store_model.specs.Graphs.{graph}
-use Rattle.store_model.specs.Kept.{device, IsUnprepared, IsWholeStore, StoreOf, IsEverywhere, IsKeptRound}
+use Rattle.store_model.specs.Kept.{IsWholeStore, StoreOf, IsEverywhere, IsKeptRound}
 use Rattle.store_model.specs.Slots.{slot_of}
 use Rattle.store_reader.specs.declared.store.Part.{Part}
 use Rattle.store_checks.specs.Causes.{Tell}
 use Rattle.store_checks.specs.declared.fault.RecoverFault.TheVariants as recover
 use Rattle.restart.specs.declared.recovering.Recovered.{Recovered}
 use Rattle.restart.specs.Recovering.{job_in, index_in, IsRecovered}
-use Rattle.restart.specs.Resuming.{changed_of_all, Resumes}
+use Rattle.restart.specs.Resuming.{Resumes}
 use Rattle.restart.specs.Storable.{IsStorable}
 use Rattle.restart.proofs.OneFault.{recovered_has_none}
 use Rattle.round_steps.specs.Going.{AreDevices, AreRows, MetersGoOn}
@@ -48,7 +46,6 @@ use Rattle.store_edges.proofs.Found.{found_stand}
 use Rattle.store_edges.proofs.Counted.{engine_counted}
 use Rattle.store_rounds.specs.Going.{start_of, LeaveRounds}
 use Rattle.store_rounds.proofs.Places.{are_images, told_images, settled_as, stop_of_each, idle_stop}
-use Rattle.store_rounds.proofs.SameRounds.{reached_by_run}
 use Rattle.store_rounds.proofs.Starting.{good_start, kept_after}
 use Rattle.store_rounds.proofs.Stores.{store_at_stop, not_lost}
 use Rattle.store_rounds.proofs.Answering.{whole_answer, front_answer}
@@ -58,12 +55,12 @@ use Rattle.endings.specs.declared.ending.Ending.TheVariants.{Answered, WriteFaul
 use Rattle.run_model.specs.Telling.{ending_of, report_of}
 use Rattle.run_model.specs.Calls.{Call, IsReady, IsBack}
 use Rattle.run_model.specs.Causes.{is_interrupted, IsAnswered, Comes}
-use Rattle.run_model.specs.Printing.{Prints, PrintsAnswer, PrintsFront as FrontOfAnswer}
+use Rattle.store_rounds.specs.Printed.{AnswerPrinted, FrontPrinted}
 use Rattle.run_model.specs.Epochs.{HasGone, AreJobEpochs, IsReportOf}
 use Rattle.run_model.specs.Standing.{IsStored}
 use Rattle.run_model.specs.Stops.{AtEachStop}
 use Rattle.run_model.specs.Runs.{MOST_BEATS}
-use Rattle.store_resume.specs.Resumes.{told_as, IsStartOf, OfBytes, AreSettled, HasResumeCause, HasPrintedNothing, HasRefused, HasCauseOfJob, StandsAfterResume, GoesOnWell, IsAtLimit, IsResume}
+use Rattle.store_resume.specs.Resumes.{OfBytes, AreSettled, HasResumeCause, HasPrintedNothing, HasRefused, HasCauseOfJob, StandsAfterResume, GoesOnWell, IsAtLimit, IsResume}
 use Rattle.run_model.proofs.Going.{devices_on, store_same, store_run, some_rose_later}
 use Rattle.run_model.proofs.Untouched.{prints_none}
 use Rattle.run_model.proofs.Counted.{same_report, counts_of_finish}
@@ -166,17 +163,15 @@ module _ {D M : Type 0} (state : D → DiskState) (lawful : (d : D) → IsDisk (
     within_limit : (kept changed : ℕ) → start ≡ At kept changed → NeverSettles job edges → kept ≤ job.limit
     within_limit kept changed is never = ((good_start state job edges call.before.store.values.items values found formed many_values tell_values resumes).reached kept changed is).within never
 
-    whole_printed : (done : Done) → RunsTo (Ok done) → PrintsAll state (split_for job) call.after.store.values.items (slot_of done.round) (shows_side job.program) call.out call.out_after → PrintsAnswer job edges call.out call.out_after
+    whole_printed : (done : Done) → RunsTo (Ok done) → PrintsAll state (split_for job) call.after.store.values.items (slot_of done.round) (shows_side job.program) call.out call.out_after → AnswerPrinted job edges call.out call.out_after
     whole_printed done runs prints =
         let good = runs_well (Ok done) runs in
-        let printed = whole_answer state job edges done.round call.after.store.values.items formed has_edges.within runs.store.values.all (λ e d below. (good.last.1 e d below).read) call.out call.out_after good.last.0 prints in
-        record { printed = printed.printed; prints = printed.prints; is_answer = printed.is_answer }
+        whole_answer state job edges done.round call.after.store.values.items formed has_edges.within runs.store.values.all (λ e d below. (good.last.1 e d below).read) call.out call.out_after good.last.0 prints
 
-    front_printed : (done : Done) → RunsTo (Ok done) → PrintsFront state (split_for job) call.after.store.values.items (slot_of done.round) (shows_side job.program) call.out call.out_after → FrontOfAnswer job edges call.out call.out_after
+    front_printed : (done : Done) → RunsTo (Ok done) → PrintsFront state (split_for job) call.after.store.values.items (slot_of done.round) (shows_side job.program) call.out call.out_after → FrontPrinted job edges call.out call.out_after
     front_printed done runs prints =
         let good = runs_well (Ok done) runs in
-        let printed = front_answer state job edges done.round call.after.store.values.items formed has_edges.within runs.store.values.all (λ e d below. (good.last.1 e d below).read) call.out call.out_after good.last.0 prints in
-        record { printed = printed.printed; rest = printed.rest; prints = printed.prints; is_answer = printed.is_answer }
+        front_answer state job edges done.round call.after.store.values.items formed has_edges.within runs.store.values.all (λ e d below. (good.last.1 e d below).read) call.out call.out_after good.last.0 prints
 
     damaged : (part : Part) (engine place : ℕ) → RunsTo (Err (fault.Damaged part engine place)) → ⊥
     damaged part engine place runs = not_damaged (Err (fault.Damaged part engine place)) runs part engine place refl graphs values tell_graphs tell_values others

@@ -23,12 +23,13 @@ use Rattle.round_loop.specs.Keeping.{IsTold}
 use Rattle.round_loop.specs.declared.run.Start.{Start}
 use Rattle.round_loop.specs.declared.run.Start.TheVariants.{Fresh, At}
 use Rattle.endings.specs.declared.ending.Report.{Report}
+use Rattle.store_rounds.specs.Printed.{AnswerPrinted, FrontPrinted}
 use Rattle.endings.specs.declared.ending.Ending.{Ending}
 use Rattle.endings.specs.declared.ending.Ending.TheVariants.{Answered, Dropped, Usage, BadLine, DiskFault, RoundLimit, Memory, ReadFault, WriteFault, NotPrepared, EnginesDiffer, Damaged, TooLong, StoreHolds}
 use Rattle.run_model.specs.Telling.{CountsChunks}
 use Rattle.run_model.specs.Calls.{Call, AnyRose, IsBack}
 use Rattle.run_model.specs.Causes.{is_interrupted, IsAnswered, Comes}
-use Rattle.run_model.specs.Printing.{Prints, PrintsAnswer, PrintsFront}
+use Rattle.run_model.specs.Printing.{Prints}
 use Rattle.run_model.specs.Epochs.{IsComplete, HasGone, AreJobEpochs}
 use Rattle.run_model.specs.Standing.{IsStored}
 use Rattle.run_model.specs.Stops.{AtEachStop}
@@ -102,10 +103,10 @@ module _ {D M : Type 0} (state : D → DiskState) (faults : M → ℕ) (call : C
   module _ (job : Job) (edges : List Edge) where
     -- why a resume of a whole store of the job ends so, and what it has printed
     abbrev pub HasCauseOfJob : Ending → Type 0
-    HasCauseOfJob (Answered report) = (¬ (NeverSettles job edges)) × PrintsAnswer job edges call.out call.out_after
+    HasCauseOfJob (Answered report) = (¬ (NeverSettles job edges)) × AnswerPrinted job edges call.out call.out_after
     HasCauseOfJob (RoundLimit limit) = (limit ≡ job.limit) × NeverSettles job edges
-    HasCauseOfJob WriteFault = PrintsFront job edges call.out call.out_after
-    HasCauseOfJob DiskFault = Prints call.out call.out_after [] ⊎ PrintsFront job edges call.out call.out_after
+    HasCauseOfJob WriteFault = FrontPrinted job edges call.out call.out_after
+    HasCauseOfJob DiskFault = Prints call.out call.out_after [] ⊎ FrontPrinted job edges call.out call.out_after
     HasCauseOfJob NotPrepared = ⊥
     HasCauseOfJob (EnginesDiffer held asked) = ⊥
     HasCauseOfJob (Damaged part engine place) = ⊥

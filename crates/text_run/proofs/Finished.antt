@@ -51,7 +51,8 @@ use Rattle.endings.specs.declared.ending.Ending.TheVariants.{Answered, WriteFaul
 use Rattle.run_model.specs.Telling.{ending_of, report_of, CountsChunks}
 use Rattle.run_model.specs.Calls.{Call, OfText, IsReady, Tells, StoreGoesOn, IsBack}
 use Rattle.run_model.specs.Causes.{HasCause}
-use Rattle.run_model.specs.Printing.{HasPrinted, PrintsAnswer, PrintsFront as FrontOfAnswer}
+use Rattle.run_model.specs.Printing.{HasPrinted}
+use Rattle.store_rounds.specs.Printed.{AnswerPrinted, FrontPrinted}
 use Rattle.run_model.specs.Epochs.{HasGone, AreJobEpochs, IsReportOf}
 use Rattle.run_model.specs.Standing.{IsStored, StandsAfter}
 use Rattle.run_model.specs.Stops.{LeavesStores}
@@ -181,18 +182,16 @@ module _ {D M : Type 0} (state : D → DiskState) (lawful : (d : D) → IsDisk (
   cause_of (finish.Stopped fault.Memory) runs caused = tt
 
   whole_printed : (done : Done) → RunsTo (Ok done) → PrintsAll state (split_for job) call.after.store.values.items (slot_of done.round) (shows_side job.program) call.out call.out_after
-      → (told : List ℕ) → call.text ≡ Some told → (graphs : List (List ℕ)) → Tells state call.before.store graphs → PrintsAnswer job (edges job told) call.out call.out_after
+      → (told : List ℕ) → call.text ≡ Some told → (graphs : List (List ℕ)) → Tells state call.before.store graphs → AnswerPrinted job (edges job told) call.out call.out_after
   whole_printed done runs prints told is graphs tells =
       let good = runs_well (Ok done) runs told is graphs tells in
-      let printed = whole_answer state job (edges job told) done.round call.after.store.values.items well (edges_within job told) runs.store.values.all (λ e d below. (good.last.1 e d below).read) call.out call.out_after good.last.0 prints in
-      record { printed = printed.printed; prints = printed.prints; is_answer = printed.is_answer }
+      whole_answer state job (edges job told) done.round call.after.store.values.items well (edges_within job told) runs.store.values.all (λ e d below. (good.last.1 e d below).read) call.out call.out_after good.last.0 prints
 
   front_printed : (done : Done) → RunsTo (Ok done) → PrintsFront state (split_for job) call.after.store.values.items (slot_of done.round) (shows_side job.program) call.out call.out_after
-      → (told : List ℕ) → call.text ≡ Some told → (graphs : List (List ℕ)) → Tells state call.before.store graphs → FrontOfAnswer job (edges job told) call.out call.out_after
+      → (told : List ℕ) → call.text ≡ Some told → (graphs : List (List ℕ)) → Tells state call.before.store graphs → FrontPrinted job (edges job told) call.out call.out_after
   front_printed done runs prints told is graphs tells =
       let good = runs_well (Ok done) runs told is graphs tells in
-      let printed = front_answer state job (edges job told) done.round call.after.store.values.items well (edges_within job told) runs.store.values.all (λ e d below. (good.last.1 e d below).read) call.out call.out_after good.last.0 prints in
-      record { printed = printed.printed; rest = printed.rest; prints = printed.prints; is_answer = printed.is_answer }
+      front_answer state job (edges job told) done.round call.after.store.values.items well (edges_within job told) runs.store.values.all (λ e d below. (good.last.1 e d below).read) call.out call.out_after good.last.0 prints
 
   printed_of : (ended : Finish) → RunsTo (rounds_of ended) → Prints state (split_for job) call.after.store.values.items (shows_side job.program) ended call.out call.out_after → HasPrinted state job call (ending_of job index ended)
   printed_of (finish.Answered done) runs prints = whole_printed done runs prints

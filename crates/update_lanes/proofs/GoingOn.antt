@@ -1,9 +1,9 @@
 -- Calls of lanes, one after another.
-use Rattle.std.proofs.Common.{◌≡◌, ℕ, ◌+◌, ◌-◌, ◌^◌, ◌<◌, ◌≤◌, List, length, get_or, refl, ◌∙◌, arith}
+use Rattle.std.proofs.Common.{◌≡◌, ℕ, ◌<◌, ◌≤◌, List, length, get_or, refl, ◌∙◌, arith}
 use Rattle.std.specs.Prelude.{Result, Ok, Err, IfErr, OnOk, OnErr}
 use Rattle.std.specs.Result.{IsErr, IsErrAnd}
 use Rattle.ports.specs.Disk.{DiskState}
-use Rattle.ports.specs.Faults.{Rose, next_count}
+use Rattle.ports.specs.Faults.{Rose}
 use Rattle.update_lanes.specs.Lanes.{GoOn, OneRose}
 
 pub goes_on : {X : Type 0} (state : X → DiskState) (number : ℕ) (old mid new : List X) → GoOn state number old mid → GoOn state number mid new → GoOn state number old new

@@ -1,10 +1,9 @@
 -- Updates that are sent one after another.
-use Rattle.std.proofs.Common.{◌≡◌, ℕ, suc, ◌+◌, ◌*◌, ◌-◌, ◌<◌, ◌≤◌, ◌==◌, ◌&&◌, not, Bool, true, false, cond, Option, Some, None, List, [], ◌∷◌, ◌++◌, length, take, get_or, refl, sym, ◌∙◌, ap, subst, arith, append-nil, append_assoc, length-append, add-one}
-use Rattle.std.specs.List.{All, flat_map}
+use Rattle.std.proofs.Common.{◌≡◌, ℕ, ◌+◌, ◌*◌, ◌<◌, ◌≤◌, Bool, true, false, cond, Option, Some, None, List, [], ◌∷◌, ◌++◌, length, take, get_or, refl, sym, ◌∙◌, ap, subst, arith, append-nil, append_assoc, length-append, add-one}
+use Rattle.std.specs.List.{All}
 use Rattle.std.proofs.Math.Seq.{take-suc}
 use Rattle.std.proofs.lemmas.Grind.{flat_map-append}
 use Rattle.graph_model.specs.declared.edge.Edge.{Edge}
-use Rattle.graph_model.specs.declared.value.Value.{Value}
 use Rattle.graph_model.specs.declared.value.Update.{Update}
 use Rattle.ports.specs.Disk.{DiskState}
 use Rattle.partitioner.specs.declared.split.Split.{Split}

@@ -1,9 +1,9 @@
 -- One update more in a buffer, and a buffer that is emptied.
-use Rattle.std.proofs.Common.{◌≡◌, ◌≢◌, ℕ, zero, suc, ◌+◌, ◌*◌, ◌<◌, ◌≤◌, true, List, [], ◌∷◌, ◌++◌, length, map, get_or, set, refl, sym, ◌∙◌, ap, subst, arith, append-nil, length-append, length-set}
-use Rattle.std.specs.Prelude.{Vec, vec_len, vec_capacity}
+use Rattle.std.proofs.Common.{◌≡◌, ℕ, zero, suc, ◌+◌, ◌*◌, ◌<◌, ◌≤◌, true, List, [], ◌∷◌, ◌++◌, length, get_or, set, refl, sym, ◌∙◌, ap, subst, arith, append-nil, length-append, length-set}
+use Rattle.std.specs.Prelude.{Vec, vec_len}
 use Rattle.std.specs.Global.{Global}
 use Rattle.std.specs.List.{All}
-use Rattle.std.proofs.lemmas.List.{get_or-set_same, get_or-set_other, get_or_default, map-set}
+use Rattle.std.proofs.lemmas.List.{get_or-set_same, get_or-set_other, map-set}
 use Rattle.std.proofs.lemmas.List.Elements.{All-push, All-nil}
 use Rattle.graph_model.specs.declared.job.Job.{Job}
 use Rattle.graph_model.specs.declared.value.Update.{Update}

@@ -1,11 +1,10 @@
 -- What the edges of one partition send, under the values of its vertices.
-use Rattle.std.specs.Prelude.{◌≡◌, ℕ, ◌-◌, ◌<◌, ◌≤◌, Option, Some, None, List, length}
-use Rattle.std.specs.List.{All}
+use Rattle.std.specs.Prelude.{◌≡◌, ℕ, ◌-◌, ◌<◌, ◌≤◌, Bool, Some, None, List, length, slice_index_or}
 use Rattle.graph_model.specs.declared.edge.Edge.{Edge}
 use Rattle.graph_model.specs.declared.value.Value.{Value}
 use Rattle.graph_model.specs.Programs.{Rules}
 use Rattle.graph_model.specs.Rounds.{value_at}
-use Rattle.phase_model.specs.Sends.{Sending}
+use Rattle.phase_model.specs.Sends.{Sending, differs}
 
 -- the value of a vertex, where the vertices from `first` on have these
 abbrev pub value_from : ℕ → List Value → ℕ → Value
@@ -24,3 +23,8 @@ pub record IsFrom (first len vertices : ℕ) (edge : Edge) : Type 0 where
   pub not_before : first ≤ edge.src
   pub within : edge.src - first < len
   pub there : edge.dst < vertices
+
+-- of each vertex, whether its value is another one than before
+pub record AreChanges (before now : List Value) (changed : List Bool) : Type 0 where
+  pub many : length changed ≡ length now
+  pub each : (k : ℕ) (d : Bool) → k < length now → slice_index_or changed k d ≡ differs (value_at now k) (value_at before k)

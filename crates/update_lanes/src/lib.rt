@@ -13,4 +13,4 @@ mod sending;
 
 pub use lanes::{LaneFault, write_chunk};
 pub use outgoing::{Outgoing, flush_lanes, flush_rest, put, reset};
-pub use sending::{send_all, send_changed};
+pub use sending::{mark_changes, send_all, send_changed};

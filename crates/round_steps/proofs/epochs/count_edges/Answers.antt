@@ -1,9 +1,5 @@
 -- The clauses of `gather_all` on a context that counts, and what the law on counted edges makes of them.
-use Rattle.std.proofs.Common.{◌≡◌, ◌⊎◌, ℕ, ◌<◌, refl, sym, ◌∙◌, ap, subst, arith, true}
-use Rattle.graph_model.specs.declared.edge.Edge.{Edge}
-use Rattle.phase_model.specs.JobTerms.{terms_of}
-use Rattle.phase_model.specs.Shelves.{records_at}
-use Rattle.store_reader.specs.Indexed.{lens_of}
+use Rattle.std.proofs.Common.{refl, ◌∙◌, ap, arith}
 use Rattle.epoch_laws.specs.Phases.{edge_shelf}
 use Rattle.round_steps.proofs.Counts.{meters_go_on, spills_go_on, rose_of_one, bytes_of, tell_still}
 use Rattle.round_steps.proofs.Begun.{counts_soundly, counts_epochs, is_begun}

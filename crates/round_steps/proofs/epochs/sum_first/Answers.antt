@@ -1,12 +1,7 @@
 -- What was counted, or accumulators that are new.
-use Rattle.std.proofs.Common.{◌≡◌, ◌≤◌, ℕ, Bool, true, false, [], refl, sym, ◌∙◌, ap, subst, arith, map}
-use Rattle.std.specs.List.{All}
-use Rattle.std.proofs.lemmas.List.Elements.{All-nil}
+use Rattle.std.proofs.Common.{◌≡◌, Bool, true, false, refl, subst, arith, map}
 use Rattle.graph_model.specs.Rounds.{merged, out_degree}
-use Rattle.phase_model.specs.JobTerms.{terms_of}
-use Rattle.replica_merge.specs.Accumulators.{split_of}
 use Rattle.store_reader.specs.declared.store.Outcome.TheVariants.{Done}
-use Rattle.round_steps.specs.Epochs.{IsWhole, HasFewChunks}
 use Rattle.round_steps.specs.Rounds.{MakesFirst}
 use Rattle.round_steps.proofs.Begun.{no_epochs}
 use Rattle.round_steps.proofs.Counts.{bytes_of}

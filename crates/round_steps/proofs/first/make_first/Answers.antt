@@ -1,5 +1,5 @@
 -- What is summed up, and then stored.
-use Rattle.std.proofs.Common.{◌≡◌, ◌⊎◌, inl, inr, ◌≤◌, ◌<◌, ◌+◌, ◌-◌, ℕ, Bool, true, false, List, refl, sym, ◌∙◌, ap, subst, arith, map, slice_index_or}
+use Rattle.std.proofs.Common.{◌≡◌, inl, inr, ◌+◌, ◌-◌, ℕ, true, false, refl, sym, subst, arith}
 use Rattle.graph_model.specs.Rounds.{IsWithinGraph}
 use Rattle.store_reader.specs.declared.store.Outcome.TheVariants.{Done}
 use Rattle.round_steps.specs.Standing.{HaveEdges}

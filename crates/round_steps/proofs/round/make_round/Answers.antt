@@ -1,5 +1,5 @@
 -- What is summed up, and then stored.
-use Rattle.std.proofs.Common.{◌≡◌, ◌⊎◌, inl, inr, ◌≤◌, ◌<◌, ◌+◌, ◌-◌, ℕ, Bool, true, false, List, refl, sym, ◌∙◌, ap, subst, arith, map, slice_index_or}
+use Rattle.std.proofs.Common.{◌≡◌, inl, inr, ◌+◌, ◌-◌, ℕ, true, false, ◌∙◌, ap, subst, arith}
 use Rattle.graph_model.specs.Rounds.{IsWithinGraph}
 use Rattle.store_reader.specs.declared.store.Outcome.TheVariants.{Done}
 use Rattle.round_steps.proofs.Kept.{meters_then, meter_rose_later, go_on_later, rows_later, others_from, stored_from, values_for_apply, within_from, merged_from, splits_from, is_store, values_untouched, sizes_untouched, devices_untouched, others_untouched, stored_untouched, others_from_same, rose_untouched, round_through}

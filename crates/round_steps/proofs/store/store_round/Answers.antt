@@ -1,6 +1,6 @@
 -- The clauses of `apply_all`, in words of the definition.
-use Rattle.std.proofs.Common.{◌≡◌, ◌≤◌, ℕ, ◌-◌, refl, sym, ◌∙◌, ap, subst, arith, map}
-use Rattle.graph_model.specs.Rounds.{IsWithinGraph, values}
+use Rattle.std.proofs.Common.{◌≡◌, ◌-◌, arith, map}
+use Rattle.graph_model.specs.Rounds.{values}
 use Rattle.store_reader.specs.declared.store.Outcome.TheVariants.{Done}
 use Rattle.apply_round.specs.Applying.{RoundTerms}
 use Rattle.round_steps.proofs.Applied.{meters_later, disks_later, apply_cause, sound_ends, keeps_others, round_stored, stands_before}

@@ -1,5 +1,5 @@
 -- The clauses of `gather_all` on a context that gathers.
-use Rattle.std.proofs.Common.{◌≡◌, ◌≤◌, ℕ, refl, sym, ◌∙◌, ap, subst, arith}
+use Rattle.std.proofs.Common.{refl, arith}
 use Rattle.round_steps.proofs.Counts.{meters_go_on, spills_go_on, rose_of_one}
 use Rattle.round_steps.proofs.Begun.{is_begun}
 use Rattle.round_steps.proofs.Gathered.{all_within}

@@ -1,5 +1,5 @@
 -- The clauses of `scatter_all`, in words of the store and of the job.
-use Rattle.std.proofs.Common.{◌≡◌, ◌≤◌, ℕ, refl, sym, ◌∙◌, ap, subst, arith}
+use Rattle.std.proofs.Common.{ℕ, refl, subst, arith}
 use Rattle.graph_model.specs.Rounds.{IsWithinGraph}
 use Rattle.round_steps.specs.Going.{AreRows}
 use Rattle.round_steps.proofs.Scattered.{rows_are, rows_go_on, row_rose, scatters_soundly, scatters}

@@ -1,12 +1,8 @@
 -- The two epochs of a round, one after the other.
-use Rattle.std.proofs.Common.{◌≡◌, ◌⊎◌, inl, inr, ◌≤◌, ℕ, Bool, true, false, refl, sym, ◌∙◌, ap, subst, arith, map}
+use Rattle.std.proofs.Common.{◌≡◌, inl, inr, true, false, refl, sym, subst, arith}
 use Rattle.phase_model.specs.Lanes.{all_updates}
-use Rattle.store_reader.specs.declared.store.Outcome.{Outcome}
 use Rattle.store_reader.specs.declared.store.Outcome.TheVariants.{Done}
-use Rattle.update_lanes.specs.Lanes.{OneRose}
-use Rattle.round_steps.specs.Going.{MeterRose, RowRose}
 use Rattle.round_steps.specs.Standing.{HaveEdges}
-use Rattle.round_steps.specs.Rounds.{MakesEpochs, HasSums}
 use Rattle.round_steps.proofs.Kept.{meters_then, meter_rose_later}
 use Rattle.round_steps.proofs.Pairs.{first_alone, then_idle, both, sums_of_round, rows_tell_still, sent_from, gathers_from, stand_from}
 use Rattle.round_steps.proofs.updates.sum_round.Goals as goal

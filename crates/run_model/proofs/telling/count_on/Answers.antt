@@ -1,5 +1,5 @@
 -- The places of one partition more were counted, or those of all were.
-use Rattle.std.proofs.Common.{◌≡◌, ◌∙◌, ℕ, ◌+◌, ◌*◌, ◌≤◌, length, sym, ap, arith}
+use Rattle.std.proofs.Common.{◌≡◌, ◌∙◌, ℕ, ◌+◌, ◌*◌, length, sym, ap, arith}
 use Rattle.std.specs.List.{sum_by, range_with_len}
 use Rattle.chunk_file.specs.Places.{places_of}
 use Rattle.run_model.specs.Telling.{count_on}

@@ -1,5 +1,5 @@
 -- All engines were counted.
-use Rattle.std.proofs.Common.{◌<◌, ◌≤◌, arith}
+use Rattle.std.proofs.Common.{arith}
 use Rattle.std.proofs.lemmas.List.FromFn.{fill_by_all}
 use Rattle.run_model.specs.Telling.{count_on, counts_of}
 use Rattle.run_model.proofs.telling.counts_of.Goals as goal

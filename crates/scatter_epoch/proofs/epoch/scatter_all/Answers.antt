@@ -1,5 +1,5 @@
 -- The parts of an epoch, put together.
-use Rattle.std.proofs.Common.{◌≡◌, ◌⊎◌, ◌≤◌, ℕ, List, length, map, ap, sym, ◌∙◌, inl, inr, subst, arith, rules, ⊎_elim}
+use Rattle.std.proofs.Common.{◌≡◌, ◌⊎◌, List, map, ap, sym, ◌∙◌, inl, inr, subst, arith, rules, ⊎_elim}
 use Rattle.std.specs.List.{range_with_len}
 use Rattle.std.specs.Prelude.{Vec}
 use Rattle.std.specs.Global.{Global}

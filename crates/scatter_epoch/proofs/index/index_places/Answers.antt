@@ -1,5 +1,5 @@
 -- An index without places, and the places of one worker more.
-use Rattle.std.proofs.Common.{rules, ◌≡◌, ℕ, ◌<◌, ◌≤◌, nat_lt, ◌+◌, ◌*◌, Bool, true, false, List, [], length, replicate, get_or, refl, subst, sym, ap, ◌∙◌, arith}
+use Rattle.std.proofs.Common.{rules, ◌≡◌, ℕ, ◌<◌, nat_lt, ◌+◌, ◌*◌, Bool, true, false, List, length, replicate, get_or, refl, ap, ◌∙◌, arith}
 use Rattle.std.proofs.lemmas.Bool.{ltb-true, ltb-false}
 use Rattle.std.proofs.lemmas.List.{get_or-replicate, get_or_past, length-replicate}
 use Rattle.chunk_file.specs.declared.index.Place.{Place}

@@ -1,4 +1,4 @@
-use Rattle.std.proofs.Common.{◌<◌, length, rules, arith}
+use Rattle.std.proofs.Common.{rules}
 use Rattle.scatter_phase.proofs.Emptying.{cut_goes_on, emptied_one}
 use Rattle.scatter_phase.proofs.empty.empty_lanes.Goals as goal
 

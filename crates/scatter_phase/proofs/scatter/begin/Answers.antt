@@ -1,4 +1,4 @@
-use Rattle.std.proofs.Common.{◌≡◌, ◌+◌, ◌*◌, ◌<◌, ◌≤◌, length, get_or, refl, sym, ap, ◌∙◌, subst, arith, rules, []}
+use Rattle.std.proofs.Common.{length, refl, sym, ◌∙◌, subst, arith}
 use Rattle.std.specs.List.{All}
 use Rattle.std.proofs.lemmas.List.Elements.{All-nil}
 use Rattle.partitioner.specs.Splits.{IsSplitOf}
@@ -27,7 +27,7 @@ returns-clause-holds g c =
     subst (All (IsWithin job.engines c.args.context.now.serving.split.now.parts)) (sym c.requires.places) (All-nil (IsWithin job.engines c.args.context.now.serving.split.now.parts)) in
     holds_first g.P.VertexProgram.rules g.D.Disk.state c.args.context.now _ c.requires.story
     (record {
-      room = record { outgoing = c.reset.ensures.room; of_job = of_job; size = size; edges = c.requires.room.edges; bytes = c.requires.room.bytes; now = c.requires.room.now; before = c.requires.room.before };
+      room = record { outgoing = c.reset.ensures.room; of_job = of_job; size = size; edges = c.requires.room.edges; bytes = c.requires.room.bytes; now = c.requires.room.now; before = c.requires.room.before; changed = c.requires.room.changed };
       loaded = λ p is. absurd (nothing_loaded p is);
       none_full = none_full;
       ready = ready;

@@ -1,4 +1,4 @@
-use Rattle.std.proofs.Common.{◌≡◌, ◌+◌, ◌≤◌, length, refl, sym, ap, ◌∙◌, subst, arith, rules}
+use Rattle.std.proofs.Common.{length}
 use Rattle.worker_duty.specs.Views.{taken_by_seat}
 use Rattle.scatter_phase.proofs.Counts.{few_flushed}
 use Rattle.scatter_phase.proofs.Steps.{places_of_chunks, within_all, within_room}

@@ -1,9 +1,9 @@
-use Rattle.std.proofs.Common.{◌≡◌, ◌+◌, ◌≤◌, length, refl, sym, ap, ◌∙◌, subst, arith, rules, []}
+use Rattle.std.proofs.Common.{length, refl, sym, ap, ◌∙◌, subst, arith, []}
 use Rattle.phase_model.specs.JobTerms.{terms_of}
 use Rattle.chunk_cursor.proofs.Knowing.{with_calls-none}
 use Rattle.store_reader.specs.Indexed.{lens_of}
 use Rattle.update_lanes.proofs.GoingOn.{goes_on}
-use Rattle.worker_duty.specs.Views.{taken_by_seat, MayWork}
+use Rattle.worker_duty.specs.Views.{MayWork}
 use Rattle.scatter_phase.proofs.Counts.{few_noted}
 use Rattle.scatter_phase.proofs.Steps.{same_sent, chunks_of, cause_of, noted, goes_on_then}
 use Rattle.scatter_phase.proofs.scatter.scatter_work.Goals as goal

@@ -1,4 +1,4 @@
-use Rattle.std.proofs.Common.{◌≡◌, ◌+◌, ◌≤◌, length, take, inl, inr, refl, sym, ap, ◌∙◌, arith, rules, subst}
+use Rattle.std.proofs.Common.{take, inl, inr, refl, arith, subst}
 use Rattle.phase_model.specs.Sends.{sent_by}
 use Rattle.update_lanes.specs.Outgoing.{SendsOn}
 use Rattle.scatter_phase.specs.Sending.{sending_in}

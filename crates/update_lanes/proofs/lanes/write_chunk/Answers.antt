@@ -1,7 +1,6 @@
 -- The chunk is one more than those before, which are fewer than a placer has words.
-use Rattle.std.proofs.Common.{get_or, subst, ◌≡◌, ℕ, ◌+◌, ◌<◌, ◌≤◌, ◌^◌, rules, arith, length, sym, ◌∙◌, ap, refl}
+use Rattle.std.proofs.Common.{subst, ◌≡◌, ◌<◌, ◌^◌, rules, arith, length, sym, ◌∙◌, ap}
 use Rattle.std.proofs.lemmas.List.{get_or_default}
-use Rattle.ports.specs.Disk.{Writes}
 use Rattle.ports.specs.Told.{AsTold}
 use Rattle.ports.specs.Sink.{Appends}
 use Rattle.chunk_model.specs.Chunks.{Chunk}

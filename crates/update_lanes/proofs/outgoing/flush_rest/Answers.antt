@@ -1,5 +1,5 @@
 -- Each partition's step, and what the steps so far come to where one of them fails and at the end.
-use Rattle.std.proofs.Common.{◌≡◌, ℕ, ◌+◌, ◌<◌, ◌≤◌, length, get_or, rules, refl, sym, ◌∙◌, ap, subst, arith}
+use Rattle.std.proofs.Common.{◌≡◌, ◌<◌, length, get_or, rules, sym, ◌∙◌, ap, subst, arith}
 use Rattle.update_lanes.specs.Lanes.{HasFlushed}
 use Rattle.update_lanes.proofs.GoingOn.{goes_on, rose_since, err_cause}
 use Rattle.update_lanes.proofs.Flushing.{flushing_skip, flushing_one, flushed_few}

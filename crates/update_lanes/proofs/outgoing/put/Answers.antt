@@ -1,20 +1,18 @@
 -- What the buffer of the update's partition is before, with the update, and after its chunk was written.
-use Rattle.std.proofs.Common.{true, [], ◌∷◌, ◌++◌, ◌≡◌, ℕ, ◌+◌, ◌*◌, ◌<◌, ◌≤◌, length, get_or, rules, refl, sym, ◌∙◌, ap, subst, arith}
-use Rattle.std.specs.Prelude.{Vec, vec_len, vec_capacity}
+use Rattle.std.proofs.Common.{true, [], ◌∷◌, ◌++◌, ◌≡◌, ◌<◌, length, get_or, rules, sym, ◌∙◌, ap, subst, arith}
+use Rattle.std.specs.Prelude.{vec_len}
 use Rattle.std.specs.Vec.{with_items}
-use Rattle.std.specs.Global.{Global}
 use Rattle.std.specs.List.{All}
-use Rattle.std.proofs.lemmas.List.{get_or_default}
 use Rattle.std.proofs.lemmas.List.Elements.{All-push}
 use Rattle.graph_model.specs.declared.value.Update.{Update}
 use Rattle.chunk_model.specs.Layout.{holds_update}
 use Rattle.chunk_model.proofs.LayoutLaws.{update_holds}
-use Rattle.update_lanes.specs.Outgoing.{IsBuffer, AreBuffers}
+use Rattle.update_lanes.specs.Outgoing.{IsBuffer}
 use Rattle.chunk_model.specs.Chunks.{full_chunks}
 use Rattle.seeded_place.specs.Placing.{update_stream}
 use Rattle.phase_model.specs.Lanes.{update_home}
 use Rattle.update_lanes.specs.Lanes.{HasMade, IsWithin}
-use Rattle.update_lanes.proofs.Sent.{home_of_update, gained_here, length-gains, gains_room, gains_open, length-empties, empties_room, empties_open, sent_kept, sent_full}
+use Rattle.update_lanes.proofs.Sent.{home_of_update, gained_here, length-gains, gains_room, length-empties, empties_room, empties_open, sent_kept, sent_full}
 use Rattle.update_lanes.proofs.outgoing.put.Goals as goal
 
 pub add-requires-clause-room : goal.add-requires-clause-room

@@ -1,11 +1,11 @@
 -- One edge more, and what was sent where a lane fails.
-use Rattle.std.proofs.Common.{◌≡◌, ℕ, ◌+◌, ◌-◌, ◌<◌, ◌≤◌, true, false, cond, Some, None, List, [], ◌∷◌, ◌++◌, length, take, get_or, rules, refl, sym, ◌∙◌, ap, subst, arith, length-take, append-nil}
+use Rattle.std.proofs.Common.{◌≡◌, ◌+◌, ◌≤◌, [], ◌∷◌, ◌++◌, length, take, get_or, sym, ◌∙◌, ap, subst, arith, length-take}
 use Rattle.graph_model.specs.declared.edge.Edge.{Edge}
 use Rattle.graph_model.specs.declared.value.Update.{Update}
 use Rattle.graph_model.specs.Programs.{Rules}
 use Rattle.phase_model.specs.Sends.{Sending, update_to, sent_along, sent_by}
 use Rattle.update_lanes.specs.Outgoing.{SendsOn}
-use Rattle.update_lanes.specs.Sending.{sending_all, value_from}
+use Rattle.update_lanes.specs.Sending.{sending_all}
 use Rattle.update_lanes.proofs.GoingOn.{rose_since, err_cause, on_err}
 use Rattle.update_lanes.proofs.Sends.{sent_by-next, sends_then, stops_then, length-sent_by}
 use Rattle.update_lanes.proofs.sending.send_all.Goals as goal

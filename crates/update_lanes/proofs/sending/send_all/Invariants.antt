@@ -1,8 +1,7 @@
 use Rattle.std.proofs.Common.{take}
 use Rattle.phase_model.specs.Sends.{sent_by}
-use Rattle.update_lanes.specs.Lanes.{OneRose}
 use Rattle.update_lanes.specs.Outgoing.{SendsOn}
-use Rattle.update_lanes.specs.Sending.{sending_all, sending_changed}
+use Rattle.update_lanes.specs.Sending.{sending_all}
 use Rattle.update_lanes.proofs.sending.send_all.Given as goal
 
 abbrev pub invariant-edges : goal.invariant-edges

@@ -1,13 +1,14 @@
 -- One edge more, and what was sent where a lane fails.
-use Rattle.std.proofs.Common.{◌≡◌, ℕ, ◌+◌, ◌-◌, ◌<◌, ◌≤◌, true, false, cond, Some, None, List, [], ◌∷◌, ◌++◌, length, take, get_or, rules, refl, sym, ◌∙◌, ap, subst, arith, length-take, append-nil}
+use Rattle.std.proofs.Common.{◌≡◌, ◌+◌, ◌≤◌, cond, [], ◌∷◌, ◌++◌, length, take, get_or, sym, ◌∙◌, ap, subst, arith, length-take, take_all}
 use Rattle.graph_model.specs.declared.edge.Edge.{Edge}
 use Rattle.graph_model.specs.declared.value.Update.{Update}
 use Rattle.graph_model.specs.Programs.{Rules}
-use Rattle.phase_model.specs.Sends.{Sending, update_to, sent_along, sent_by}
+use Rattle.phase_model.specs.Sends.{update_to}
 use Rattle.update_lanes.specs.Outgoing.{SendsOn}
-use Rattle.update_lanes.specs.Sending.{sending_changed, value_from}
+use Rattle.update_lanes.specs.Sending.{value_from}
 use Rattle.update_lanes.proofs.GoingOn.{rose_since, err_cause, on_err}
-use Rattle.update_lanes.proofs.Sends.{sent_by-next, sends_then, stops_then, length-sent_by}
+use Rattle.update_lanes.proofs.Sends.{sends_then, stops_then}
+use Rattle.update_lanes.proofs.Marked.{sent_marked, sent_by_marked, marked-next, length-sent_by_marked, marked_is_changed}
 use Rattle.update_lanes.proofs.sending.send_changed.Goals as goal
 
 pub edges-preserved : goal.edges-preserved
@@ -16,9 +17,9 @@ edges-preserved g c =
     let none : Edge = record { src = 0; dst = 0; weight = 0 } in
     let edge : Edge = get_or c.args.edges.now i none in
     let rules_of : Rules = g.P.VertexProgram.rules c.args.program.now in
-    let s : Sending = sending_changed (g.P.VertexProgram.rules c.args.program.now) c.args.first c.args.before.now c.args.now.now in
     let update : Update = record { dst = edge.dst; value = c.in-Some.number } in
-    let along : sent_along s edge ≡ update ∷ [] = ap (λ b. cond b (update_to edge.dst (rules_of.send (value_from c.args.first c.args.now.now edge.src) edge.weight)) []) (sym c.differ.ensures ∙ c.if-not-differ.false) ∙ ap (update_to edge.dst) (sym c.send.ensures ∙ c.in-Some.is) in
+    let along : sent_marked rules_of c.args.first c.args.now.now c.args.changed.now edge ≡ update ∷ [] =
+    ap (λ b. cond b (update_to edge.dst (rules_of.send (value_from c.args.first c.args.now.now edge.src) edge.weight)) []) c.if-not-changed-at.false ∙ ap (update_to edge.dst) (sym c.send.ensures ∙ c.in-Some.is) in
     let one : SendsOn g.D.Disk.state c.args.beat.now c.edges.out c.put.new.out c.edges.lanes c.put.new.lanes c.edges.places.items c.put.new.places.items (update ∷ []) = record {
       same = c.put.ensures.same;
       room = c.put.ensures.room;
@@ -28,18 +29,20 @@ edges-preserved g c =
       within = c.put.ensures.within;
       sent = c.in_ok-put.ensures.sent;
     } in
-    let whole : sent_by s (take i c.args.edges.now) ++ update ∷ [] ≡ sent_by s (take (i + 1) c.args.edges.now) =
-    sym (sent_by-next s c.args.edges.now i none c.edges-test.true ∙ ap (λ us. sent_by s (take i c.args.edges.now) ++ us) along) in
+    let whole : sent_by_marked rules_of c.args.first c.args.now.now c.args.changed.now (take i c.args.edges.now) ++ update ∷ [] ≡ sent_by_marked rules_of c.args.first c.args.now.now c.args.changed.now (take (i + 1) c.args.edges.now) =
+    sym (marked-next rules_of c.args.first c.args.now.now c.args.changed.now c.args.edges.now i none c.edges-test.true ∙ ap (λ us. sent_by_marked rules_of c.args.first c.args.now.now c.args.changed.now (take i c.args.edges.now) ++ us) along) in
     subst (λ us. SendsOn g.D.Disk.state c.args.beat.now c.args.out.now c.put.new.out c.args.lanes.now c.put.new.lanes c.args.places.now.items c.put.new.places.items us) whole
-    (sends_then g.D.Disk.state c.args.beat.now c.args.out.now c.edges.out c.put.new.out c.args.lanes.now c.edges.lanes c.put.new.lanes c.args.places.now.items c.edges.places.items c.put.new.places.items (sent_by s (take i c.args.edges.now)) (update ∷ []) c.edges.invariant one)
+    (sends_then g.D.Disk.state c.args.beat.now c.args.out.now c.edges.out c.put.new.out c.args.lanes.now c.edges.lanes c.put.new.lanes c.args.places.now.items c.edges.places.items c.put.new.places.items (sent_by_marked rules_of c.args.first c.args.now.now c.args.changed.now (take i c.args.edges.now)) (update ∷ []) c.edges.invariant one)
 
 pub returns-in_err-put-clause-stops : goal.returns-in_err-put-clause-stops
 returns-in_err-put-clause-stops g c =
     let i = c.edges.edge-index in
-    let s : Sending = sending_changed (g.P.VertexProgram.rules c.args.program.now) c.args.first c.args.before.now c.args.now.now in
-    let few : length (sent_by s (take i c.args.edges.now)) ≤ length c.args.edges.now = omega (arith, length-sent_by s (take i c.args.edges.now), length-take i c.args.edges.now) in
+    let rules_of : Rules = g.P.VertexProgram.rules c.args.program.now in
+    let few : length (sent_by_marked rules_of c.args.first c.args.now.now c.args.changed.now (take i c.args.edges.now)) ≤ length c.args.edges.now =
+    omega (arith, length-sent_by_marked rules_of c.args.first c.args.now.now c.args.changed.now (take i c.args.edges.now), length-take i c.args.edges.now) in
     on_err c.from_residual.result _ c.from_residual.ensures.0
-    (stops_then g.D.Disk.state c.args.beat.now c.args.out.now c.edges.out c.put.new.out c.args.lanes.now c.edges.lanes c.put.new.lanes c.args.places.now.items c.edges.places.items c.put.new.places.items (sent_by s (take i c.args.edges.now)) (length c.args.edges.now)
+    (stops_then g.D.Disk.state c.args.beat.now c.args.out.now c.edges.out c.put.new.out c.args.lanes.now c.edges.lanes c.put.new.lanes c.args.places.now.items c.edges.places.items c.put.new.places.items
+    (sent_by_marked rules_of c.args.first c.args.now.now c.args.changed.now (take i c.args.edges.now)) (length c.args.edges.now)
     c.edges.invariant c.put.ensures.same c.put.ensures.room c.put.ensures.lanes c.in_err-put.ensures.kept few)
 
 pub returns-in_err-put-clause-cause : goal.returns-in_err-put-clause-cause
@@ -48,15 +51,10 @@ returns-in_err-put-clause-cause g c =
     (λ fault same is. rose_since g.D.Disk.state c.args.beat.now c.args.lanes.now c.edges.lanes c.put.new.lanes c.edges.invariant.go_on (c.in_err-put.ensures.cause (sym same ∙ is)))
     c.from_residual.ensures.1
 
--- an edge along which nothing is sent
-pub edges-preserved-in_default : goal.edges-preserved-in_default
-edges-preserved-in_default g c =
-    let i = c.edges.edge-index in
-    let none : Edge = record { src = 0; dst = 0; weight = 0 } in
-    let edge : Edge = get_or c.args.edges.now i none in
+pub returns-clause-sends : goal.returns-clause-sends
+returns-clause-sends g c = λ before changes.
     let rules_of : Rules = g.P.VertexProgram.rules c.args.program.now in
-    let s : Sending = sending_changed rules_of c.args.first c.args.before.now c.args.now.now in
-    let along : sent_along s edge ≡ [] = ap (λ b. cond b (update_to edge.dst (rules_of.send (value_from c.args.first c.args.now.now edge.src) edge.weight)) []) (sym c.differ.ensures ∙ c.if-not-differ.false) ∙ ap (update_to edge.dst) (sym c.send.ensures ∙ c.in_default.is) in
-    let whole : sent_by s (take i c.args.edges.now) ≡ sent_by s (take (i + 1) c.args.edges.now) =
-    sym (sent_by-next s c.args.edges.now i none c.edges-test.true ∙ ap (λ us. sent_by s (take i c.args.edges.now) ++ us) along ∙ append-nil (sent_by s (take i c.args.edges.now))) in
-    subst (λ us. SendsOn g.D.Disk.state c.args.beat.now c.args.out.now c.edges.out c.args.lanes.now c.edges.lanes c.args.places.now.items c.edges.places.items us) whole c.edges.invariant
+    let all : take c.edges.edge-index c.args.edges.now ≡ c.args.edges.now = take_all c.edges.edge-index c.args.edges.now (omega (arith, c.edges-test.false)) in
+    subst (λ us. SendsOn g.D.Disk.state c.args.beat.now c.args.out.now c.edges.out c.args.lanes.now c.edges.lanes c.args.places.now.items c.edges.places.items us)
+    (ap (sent_by_marked rules_of c.args.first c.args.now.now c.args.changed.now) all ∙ marked_is_changed rules_of c.args.first c.args.now.now c.args.changed.now before c.args.out.now.split.vertices c.args.edges.now changes c.requires.edges)
+    c.edges.invariant

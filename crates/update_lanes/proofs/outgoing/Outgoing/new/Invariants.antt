@@ -1,7 +1,4 @@
-use Rattle.std.proofs.Common.{◌≡◌, ℕ, ◌<◌, ◌≤◌, [], length, get_or}
-use Rattle.std.specs.Prelude.{Vec, vec_capacity}
-use Rattle.std.specs.Global.{Global}
-use Rattle.graph_model.specs.declared.value.Update.{Update}
+use Rattle.std.proofs.Common.{◌≡◌, length}
 use Rattle.update_lanes.specs.Outgoing.{AreBuffers}
 use Rattle.update_lanes.proofs.outgoing.Outgoing.new.Given as goal
 
