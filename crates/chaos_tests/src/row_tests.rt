@@ -40,6 +40,17 @@ drop;;0;;",
 }
 
 #[test]
+fn reports_are_told(rt: HostRuntime) {
+    expect_rows(
+        &rt,
+        rt.alloc(),
+        "run sssp 0 --vertices 3 --report;0 1 5/0 2 1/2 1 1/;0;0 0/1 2/2 1/;rounds 3/engine 0 chunks 1/claims 5/admitted 0/
+run sssp 0 --vertices 3 --limit 2 --report;0 1 5/0 2 1/2 1 1/;4;;no fixpoint within 2 rounds/
+run degrees --vertices 2 --engines 2 --report;;0;0 0 0/1 0 0/;rounds 1/engine 0 chunks 0/engine 1 chunks 0/claims 0/admitted 0/",
+    )
+}
+
+#[test]
 fn refusals_print_nothing(rt: HostRuntime) {
     expect_rows(
         &rt,
@@ -63,8 +74,9 @@ run bfs 0 --vertices 4 --seed 1 --seed 1
 run degrees 1 --vertices 2
 run labels --vertices 1000 --most 10
 run degrees --vertices 67108865
-run bfs 0 --vertices 4 --report
-bench degrees --scale 0 --edges 3";
+run bfs 0 --vertices 4 --edges 3
+bench degrees --edges 3
+bench degrees --scale 0 --edges 3 --report";
 
 const USAGE: &str =
     "usage: chaos_cli run|bench|resume|drop [bfs ROOT|labels|sssp ROOT|degrees|pagerank ROUNDS] [options]\n";

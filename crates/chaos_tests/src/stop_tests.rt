@@ -160,18 +160,25 @@ fn look_at<R: Threads + Sync + Abort>(rt: &R, alloc: Global, stops: &[Contents],
     }
 }
 
-/// Goes on from what each stop left, and stops again.
-fn look_again<R: Threads + Sync + Abort>(rt: &R, alloc: Global, stops: &[Contents]) {
-    for stop in stops {
+/// Goes on from what each stop left, and from the last of them once more where it is stopped again.
+fn look_again<R: Threads + Sync + Abort>(rt: &R, alloc: Global, stops: &[Contents], engine: u32) {
+    let mut seen = NONE;
+    look_at(rt, alloc, stops, &mut seen);
+    if let Some(stop) = stops.last() {
         if is_resumed(rt, alloc, stop, &ONE_EDGE) {
-            stop_again(rt, alloc, stop, 0);
-            stop_again(rt, alloc, stop, 1);
+            stop_again(rt, alloc, stop, engine);
         }
     }
 }
 
-/// Fails each call of a device in a run, goes on from each image of it, and stops again.
-fn stop_twice<R: Threads + Sync + Abort>(rt: &R, alloc: Global, kind: Kind, engine: u32) {
+/// Fails each call of a device in a run, goes on from each image of it, and stops that by the values of an engine.
+fn stop_twice<R: Threads + Sync + Abort>(
+    rt: &R,
+    alloc: Global,
+    kind: Kind,
+    engine: u32,
+    other: u32,
+) {
     let object = Object::new(kind, 0, engine);
     let held = Contents::empty(alloc);
     for number in 1..100 {
@@ -180,7 +187,7 @@ fn stop_twice<R: Threads + Sync + Abort>(rt: &R, alloc: Global, kind: Kind, engi
         if stops.is_empty() {
             return;
         }
-        look_again(rt, alloc, &stops);
+        look_again(rt, alloc, &stops, other);
     }
     assert!(rt; false, "a call never ends");
 }
@@ -188,8 +195,8 @@ fn stop_twice<R: Threads + Sync + Abort>(rt: &R, alloc: Global, kind: Kind, engi
 #[test]
 fn a_run_is_stopped_and_stopped_again(rt: HostRuntime) {
     let alloc = rt.alloc();
-    stop_twice(&rt, alloc, Kind::Graph, 0);
-    stop_twice(&rt, alloc, Kind::Graph, 1);
-    stop_twice(&rt, alloc, Kind::Values, 0);
-    stop_twice(&rt, alloc, Kind::Values, 1);
+    stop_twice(&rt, alloc, Kind::Graph, 0, 0);
+    stop_twice(&rt, alloc, Kind::Graph, 1, 1);
+    stop_twice(&rt, alloc, Kind::Values, 0, 1);
+    stop_twice(&rt, alloc, Kind::Values, 1, 0);
 }

@@ -46,6 +46,10 @@ resume;;0;0 0/1 1/2 2/;
 run degrees --vertices 0;;0;;
 resume;;0;;
 
+bench degrees --scale 0 --edges 3;0 x/;0;vertices 1/edges 3/rounds 1/lines 1/bytes 6/mark 1405303604/;
+bench degrees --scale 0 --edges 3;;12;;store holds a job/
+resume;;0;0 3 3/;
+
 run pagerank 2 --vertices 3 --engines 2 --chunk 1;0 1/0 2/1 2/;0;0 150000/1 213750/2 702500/;
 run degrees --vertices 3 --engines 2;0 1/;12;;store holds a job/
 resume --engines 2;;0;0 150000/1 213750/2 702500/;
@@ -118,7 +122,9 @@ graph 76 3;resume;;10;;graph 0 is damaged at byte 65/
 values 15 3;resume;;10;;values 0 is damaged at byte 0/
 values 95 4;resume;;10;;values 0 is damaged at byte 72/
 values 72 0;resume;;0;0 0/1 2/2 1/;
+values 72 0;resume --report;;0;0 0/1 2/2 1/;rounds 3/engine 0 chunks 1/claims 2/admitted 0/
 values 0 0 values 72 0;resume;;0;0 0/1 2/2 1/;
+values 72 0;resume --report;;0;0 0/1 2/2 1/;rounds 3/engine 0 chunks 1/claims 2/admitted 0/
 graph 1 7;run bfs 0 --vertices 4;0 1/1 2/;12;;store holds a job/
 graph 0 0;run bfs 0 --vertices 4;0 1/1 2/;0;0 0/1 1/2 2/3 -/;";
     for row in rows.lines() {
