@@ -19,9 +19,36 @@ pub(crate) const ON_ONE: Small = Small {
     answer: DISTANCES,
 };
 
+/// The same on two engines, in chunks of one record.
+pub(crate) const ON_TWO: Small = Small {
+    run: "run sssp 0 --vertices 3 --engines 2 --chunk 1",
+    text: WEIGHTED,
+    answer: DISTANCES,
+};
+
+/// Levels over one edge on two engines, each of which has one vertex.
+pub(crate) const ONE_EDGE: Small = Small {
+    run: "run bfs 0 --vertices 2 --engines 2 --chunk 1",
+    text: b"0 1\n",
+    answer: b"0 0\n1 1\n",
+};
+
 /// Ranks on two engines, in chunks of one record.
 pub(crate) const RANKS: Small = Small {
     run: "run pagerank 1 --vertices 3 --engines 2 --chunk 1",
     text: b"0 1\n0 2\n1 2\n",
     answer: b"0 150000\n1 575000\n2 1425000\n",
 };
+
+/// The same in three rounds.
+pub(crate) const LATE_RANKS: Small = Small {
+    run: "run pagerank 3 --vertices 3 --engines 2 --chunk 1",
+    text: b"0 1\n0 2\n1 2\n",
+    answer: b"0 150000\n1 213750\n2 395437\n",
+};
+
+/// Gives up a store of two engines.
+pub(crate) const DROP: &str = "drop --engines 2";
+
+/// Goes on with one.
+pub(crate) const RESUME: &str = "resume --engines 2";

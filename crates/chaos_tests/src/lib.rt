@@ -1,8 +1,11 @@
-//! Tests of the top call on devices in memory: rows of words and texts with what must be printed, calls of a stream or of a
-//! meter that fail, chunks placed by many seeds, and a device that changes an edge between two rounds. It has no code of
-//! its own, promises nothing and touches disks in memory alone.
+//! Tests of the top call on devices in memory: rows of words and texts with what must be printed, calls in turn on one
+//! store, stores of which a byte was changed, each call of the outside that fails, a stop at every moment of a call and once
+//! more in the resume, chunks placed by many seeds, a device that changes an edge between two rounds, and a large run beside
+//! the plain engine. It has no code of its own, promises nothing and touches disks in memory alone.
 #![tactic(auto)]
 
+#[cfg(test)]
+mod bench_tests;
 #[cfg(test)]
 mod call;
 #[cfg(test)]
@@ -10,7 +13,11 @@ mod changing;
 #[cfg(test)]
 mod changing_tests;
 #[cfg(test)]
+mod contents;
+#[cfg(test)]
 mod engine_tests;
+#[cfg(test)]
+mod fault_tests;
 #[cfg(test)]
 mod faults;
 #[cfg(test)]
@@ -18,6 +25,16 @@ mod jobs;
 #[cfg(test)]
 mod row_tests;
 #[cfg(test)]
+mod rows;
+#[cfg(test)]
+mod stop_tests;
+#[cfg(test)]
+mod stops;
+#[cfg(test)]
+mod stores;
+#[cfg(test)]
 mod stream_tests;
+#[cfg(test)]
+mod turn_tests;
 #[cfg(test)]
 mod world;

@@ -1,44 +1,12 @@
 // Whole calls over texts in memory; what they must print was worked out by hand.
-//
-// A row has the words, the text, the status, what is printed and what is said, between semicolons. In texts `/` stands
-// for a line feed, `~` for a tab and `^` for a carriage return.
 use crate::call::{call, words_of};
+use crate::rows::expect_row;
 use crate::world::new_world;
 use job_words::wanted;
 use std::alloc::Global;
 use std::process::Abort;
 use std::test::*;
 use std::thread::Threads;
-
-fn bytes_of(rt: &impl Abort, alloc: Global, shown: &str) -> Vec<u8> {
-    let mut bytes = Vec::new(alloc);
-    for byte in shown.as_bytes() {
-        let byte = match byte {
-            b'/' => b'\n',
-            b'~' => b'\t',
-            b'^' => b'\r',
-            other => *other,
-        };
-        bytes.push(byte).expect(rt, "room");
-    }
-    bytes
-}
-
-/// The call of a row, on empty devices of so many engines as its words want.
-fn expect_row<R: Threads + Sync + Abort>(rt: &R, alloc: Global, row: &str) {
-    let columns: Vec<&str> = row.split(';').collect(alloc).expect(rt, "room");
-    let [words, text, status, printed, message] = columns.as_slice() else {
-        panic!(rt; "a row has five columns");
-    };
-    let text = bytes_of(rt, alloc, text);
-    let printed = bytes_of(rt, alloc, printed);
-    let message = bytes_of(rt, alloc, message);
-    let engines = wanted(alloc, &words_of(rt, alloc, words)).expect(rt, "room");
-    let mut world = new_world(rt, alloc, engines);
-    let told = call(rt, alloc, &mut world, words, &text);
-    assert!(rt; status.parse() == Ok(told.status), "{row}");
-    assert!(rt; told.is(told.status, &printed, &message), "{row}");
-}
 
 fn expect_rows<R: Threads + Sync + Abort>(rt: &R, alloc: Global, rows: &str) {
     for row in rows.lines() {
@@ -72,6 +40,17 @@ drop;;0;;",
 }
 
 #[test]
+fn reports_are_told(rt: HostRuntime) {
+    expect_rows(
+        &rt,
+        rt.alloc(),
+        "run sssp 0 --vertices 3 --report;0 1 5/0 2 1/2 1 1/;0;0 0/1 2/2 1/;rounds 3/engine 0 chunks 1/claims 5/admitted 0/
+run sssp 0 --vertices 3 --limit 2 --report;0 1 5/0 2 1/2 1 1/;4;;no fixpoint within 2 rounds/
+run degrees --vertices 2 --engines 2 --report;;0;0 0 0/1 0 0/;rounds 1/engine 0 chunks 0/engine 1 chunks 0/claims 0/admitted 0/",
+    )
+}
+
+#[test]
 fn refusals_print_nothing(rt: HostRuntime) {
     expect_rows(
         &rt,
@@ -95,8 +74,9 @@ run bfs 0 --vertices 4 --seed 1 --seed 1
 run degrees 1 --vertices 2
 run labels --vertices 1000 --most 10
 run degrees --vertices 67108865
-run bfs 0 --vertices 4 --report
-bench degrees --scale 0 --edges 3";
+run bfs 0 --vertices 4 --edges 3
+bench degrees --edges 3
+bench degrees --scale 0 --edges 3 --report";
 
 const USAGE: &str =
     "usage: chaos_cli run|bench|resume|drop [bfs ROOT|labels|sssp ROOT|degrees|pagerank ROUNDS] [options]\n";

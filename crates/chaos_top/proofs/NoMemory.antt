@@ -1,5 +1,5 @@
--- There was no memory for the words, whatever they mean.
-use Rattle.std.proofs.Common.{inl, inr, ℕ, List, [], Option, Some, None, refl, arith}
+-- There was no memory for the words, whatever they mean, or they were refused.
+use Rattle.std.proofs.Common.{◌≡◌, ◌≤◌, inl, inr, ℕ, Bool, false, List, [], Option, Some, None, refl, sym, subst, arith}
 use Rattle.ports.specs.Disk.{DiskState, IsDisk}
 use Rattle.graph_model.specs.declared.job.Job.{Job}
 use Rattle.rmat_source.specs.Rmat.{rmat_text}
@@ -11,11 +11,13 @@ use Rattle.job_words.specs.declared.command.Command.{Command}
 use Rattle.job_words.specs.declared.command.Command.TheVariants.{Run, Bench, Resume, Discard}
 use Rattle.round_loop.specs.Keeping.{moment}
 use Rattle.store_rounds.proofs.Places.{idle_stop}
-use Rattle.endings.specs.declared.ending.Ending.TheVariants.{Memory}
+use Rattle.endings.specs.Endings.{message}
+use Rattle.endings.specs.Telling.{Tells}
+use Rattle.endings.specs.declared.ending.Ending.TheVariants.{Memory, Usage}
 use Rattle.run_model.specs.Calls.{Call, IsReady}
 use Rattle.run_model.specs.Runs.{IsRun}
 use Rattle.store_drop.specs.Drops.{IsDrop}
-use Rattle.run_model.proofs.Going.{meters_same}
+use Rattle.run_model.proofs.Going.{meters_same, devices_on, rows_on}
 use Rattle.run_model.proofs.Untouched.{prints_none}
 use Rattle.text_run.proofs.Held.{untouched, no_room}
 use Rattle.bench_run.specs.Benches.{IsBench}
@@ -59,5 +61,32 @@ module _ {D M : Type 0} (state : D → DiskState) (lawful : (d : D) → IsDisk (
       recover.Memory tt (λ job edges graphs values storable stores tell_graphs tell_values. tt)
   nothing_done (Some (Discard engines)) ready = not_dropped engines ready
 
-  pub outcome_without_memory : (command : Option Command) → IsReady state (engines_of command) (moment store meters seat beat) → IsOutcome state faults call command Memory
-  outcome_without_memory command ready = outcome_of state faults call Memory command (nothing_done command ready)
+  -- the call, where the beat that it ends with is one of the same number
+  abbrev pub begun : ℕ → Call D M
+  begun now = record call { after = moment store meters seat now }
+
+  pub outcome_without_memory : (command : Option Command) (now : ℕ) → now ≡ beat → IsReady state (engines_of command) (moment store meters seat beat) → IsOutcome state faults (begun now) command Memory
+  outcome_without_memory command now is ready = subst (λ (n : ℕ). IsOutcome state faults (begun n) command Memory) (sym is) (outcome_of state faults call Memory command (nothing_done command ready))
+
+  pub outcome_of_refused : (command : Option Command) (now : ℕ) → now ≡ beat → command ≡ None → IsOutcome state faults (begun now) command Usage
+  outcome_of_refused command now is none = subst (λ (n : ℕ). IsOutcome state faults (begun n) command Usage) (sym is)
+      (outcome_of state faults call Usage command (subst (Promised state faults call Usage) (sym none) (record { refused = inl refl; unread = refl; printed = prints_none out out refl; unchanged = refl })))
+
+-- a call may be made under a later beat
+pub ready_later : {D M : Type 0} (state : D → DiskState) (many : ℕ) (store : Store D M) (meters : List M) (seat : View) (b n : ℕ) → b ≤ n → IsReady state many (moment store meters seat b) → IsReady state many (moment store meters seat n)
+ready_later state many store meters seat b n later ready = record {
+  graphs = devices_on state many b n store.graphs.items later ready.graphs;
+  values = devices_on state many b n store.values.items later ready.values;
+  lanes = rows_on state many b n store.lanes.items later ready.lanes;
+  spills = devices_on state many b n store.spills.items later ready.spills;
+  meters = ready.meters;
+  between = ready.between;
+}
+
+-- want of memory is told in the same words, whether a report is asked for or not
+pub told_memory : (reports : Bool) (status : ℕ) (err err_after : Option (List ℕ)) (faults faults_after : ℕ) → Tells false Memory status err err_after faults faults_after → Tells reports Memory status err err_after faults faults_after
+unfolding message
+told_memory reports status err err_after faults faults_after told = record {
+  by_status = told.by_status;
+  by_message = record { whole = told.by_message.whole; front = told.by_message.front };
+}

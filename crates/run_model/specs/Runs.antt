@@ -1,5 +1,5 @@
 -- **What a run of a job over a text promises.**
-use Rattle.std.specs.Prelude.{◌≡◌, ℕ, List, [], Some}
+use Rattle.std.specs.Prelude.{◌≡◌, ℕ, ◌+◌, List, [], Some}
 use Rattle.ports.specs.Disk.{DiskState}
 use Rattle.graph_model.specs.declared.job.Job.{Job}
 use Rattle.graph_model.specs.Answer.{edges}
@@ -34,5 +34,7 @@ module _ {D M : Type 0} (state : D → DiskState) (faults : M → ℕ) (job : Jo
     pub are : OfText call.text (λ text. OfTold state call.before.store (λ graphs. AreJobEpochs job (edges job text) Fresh ending epochs))
     pub counts : (report : Report) → ending ≡ Answered report → OfText call.text (λ text. CountsChunks job (edges job text) report)
     pub back : IsBack state faults job.engines MOST_BEATS call.before call.after
+    -- the gates were opened in a beat of their own, and each round was stored in one of its own
+    pub beats : (report : Report) → ending ≡ Answered report → call.after.beat ≡ call.before.beat + 2 + report.rounds
     pub stands : StandsAfter state job call ending
     pub stops : LeavesStores state job call

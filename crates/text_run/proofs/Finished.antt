@@ -271,6 +271,16 @@ module _ {D M : Type 0} (state : D → DiskState) (lawful : (d : D) → IsDisk (
       of_job (finish.Stopped (fault.Damaged part engine place)) runs (ending_of job index (finish.Stopped (fault.Damaged part engine place))) (λ report answered. cc) (λ written. cc) (λ limit limited. cc) told is graphs tells
   are_of (finish.Stopped fault.Memory) runs told is graphs tells = of_job (finish.Stopped fault.Memory) runs (ending_of job index (finish.Stopped fault.Memory)) (λ report answered. cc) (λ written. cc) (λ limit limited. cc) told is graphs tells
 
+  -- in which beat it has ended
+  beats_of : (ended : Finish) → RunsTo (rounds_of ended) → (report : Report) → ending_of job index ended ≡ Answered report → call.after.beat ≡ call.before.beat + 2 + report.rounds
+  beats_of (finish.Answered done) runs report is = subst (λ (r : Report). call.after.beat ≡ call.before.beat + 2 + r.rounds) (same_report (report_of job index done) report is) (omega (arith, runs.done.2, prepares.second))
+  beats_of (finish.NotWritten done) runs report is = absurd (cc)
+  beats_of (finish.NotRead done) runs report is = absurd (cc)
+  beats_of (finish.Stopped fault.RoundLimit) runs report is = absurd (cc)
+  beats_of (finish.Stopped fault.DiskFault) runs report is = absurd (cc)
+  beats_of (finish.Stopped (fault.Damaged part engine place)) runs report is = absurd (cc)
+  beats_of (finish.Stopped fault.Memory) runs report is = absurd (cc)
+
   -- what the report counts
   counts_of_text : (ended : Finish) (report : Report) → ending_of job index ended ≡ Answered report → OfText call.text (λ told. CountsChunks job (edges job told) report)
   counts_of_text ended report is told told_is = subst (λ (given : List Edge). CountsChunks job given report)
@@ -292,6 +302,7 @@ module _ {D M : Type 0} (state : D → DiskState) (lawful : (d : D) → IsDisk (
         are = are_of ended runs;
         counts = λ report is told told_is. counts_of_text ended report is told told_is;
         back = back (rounds_of ended) runs;
+        beats = beats_of ended runs;
         stands = stands_of ended runs;
         stops = stops (rounds_of ended) runs;
       }

@@ -1,5 +1,5 @@
 -- Runs that end before the store is touched.
-use Rattle.std.proofs.Common.{◌∙◌, inl, inr, ℕ, List, [], Option, refl, arith}
+use Rattle.std.proofs.Common.{◌∙◌, inl, inr, ℕ, List, [], Option, refl, sym, subst, arith}
 use Rattle.std.specs.List.{All}
 use Rattle.ports.specs.Disk.{DiskState, IsDisk}
 use Rattle.graph_model.specs.declared.job.Job.{Job}
@@ -71,6 +71,7 @@ module _ {D M : Type 0} (state : D → DiskState) (lawful : (d : D) → IsDisk (
     are = λ text text_is graphs tells. none_of_job job ending not_complete (edges job text) Fresh;
     counts = λ report answered text text_is. none_counted job ending not_complete (edges job text) report answered;
     back = back;
+    beats = λ report answered. absurd (not_complete (subst IsComplete (sym answered) tt));
     stands = stands;
     stops = leaves_untouched state lawful job call ready.graphs.all refl refl;
   }

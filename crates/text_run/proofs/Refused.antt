@@ -134,6 +134,7 @@ module _ {D M : Type 0} (state : D → DiskState) (faults : M → ℕ) (job : Jo
         are = λ told told_is devices tells. none_of_job job (refusal (text_limit job.chunk) why) (not_complete (text_limit job.chunk) why) (edges job told) Fresh;
         counts = λ report answered told told_is. none_counted job (refusal (text_limit job.chunk) why) (not_complete (text_limit job.chunk) why) (edges job told) report answered;
         back = back;
+        beats = λ report answered. absurd (not_complete (text_limit job.chunk) why (subst IsComplete (sym answered) tt));
         stands = stands_of state faults job call (text_limit job.chunk) why prepares.shut;
         stops = stops;
       }
