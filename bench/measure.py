@@ -171,7 +171,7 @@ def machine(folder):
     """A line on the processors, the kernel, the files and the compiler."""
     models = [line for line in Path("/proc/cpuinfo").read_text().splitlines() if line.startswith("model name")]
     model = models[0].partition(":")[2].strip() if models else platform.machine()
-    files = said_by("stat", "--file-system", "--format", "%T", str(folder))
+    files = said_by("findmnt", "--noheadings", "--output", "FSTYPE", "--target", str(folder))
     return f"{os.cpu_count()} processors ({model}), {platform.system()} {platform.release()}, files on {files}, {said_by('cc', '--version')}."
 
 
