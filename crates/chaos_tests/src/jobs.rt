@@ -26,13 +26,6 @@ pub(crate) const ON_TWO: Small = Small {
     answer: DISTANCES,
 };
 
-/// Levels over one edge on two engines, each of which has one vertex.
-pub(crate) const ONE_EDGE: Small = Small {
-    run: "run bfs 0 --vertices 2 --engines 2 --chunk 1",
-    text: b"0 1\n",
-    answer: b"0 0\n1 1\n",
-};
-
 /// Ranks on two engines, in chunks of one record.
 pub(crate) const RANKS: Small = Small {
     run: "run pagerank 1 --vertices 3 --engines 2 --chunk 1",

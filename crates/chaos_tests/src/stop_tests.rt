@@ -2,7 +2,7 @@
 use crate::call::call;
 use crate::contents::{Contents, after_run, before_last_round};
 use crate::faults::{Fault, Kind, Object};
-use crate::jobs::{DROP, ON_TWO, ONE_EDGE, RESUME, Small};
+use crate::jobs::{DROP, ON_TWO, RESUME, Small};
 use crate::stops::{copies_of, is_resumed, pairs_in, stopped};
 use crate::world::{World, world_on};
 use mem_devices::MemDisk;
@@ -142,7 +142,7 @@ fn stop_again<R: Threads + Sync + Abort>(rt: &R, alloc: Global, held: &Contents,
     let object = Object::new(Kind::Values, 0, engine);
     for number in 1..100 {
         let fault = Fault { object, number };
-        let stops = stopped(rt, alloc, held, &ONE_EDGE, RESUME, &fault);
+        let stops = stopped(rt, alloc, held, &ON_TWO, RESUME, &fault);
         if stops.is_empty() {
             return;
         }
@@ -156,47 +156,51 @@ fn stop_again<R: Threads + Sync + Abort>(rt: &R, alloc: Global, held: &Contents,
 /// Goes on from what each stop left.
 fn look_at<R: Threads + Sync + Abort>(rt: &R, alloc: Global, stops: &[Contents], seen: &mut Seen) {
     for stop in stops {
-        look(rt, alloc, stop, &ONE_EDGE, seen);
+        look(rt, alloc, stop, &ON_TWO, seen);
     }
 }
 
-/// Goes on from what each stop left, and from the last of them once more where it is stopped again.
-fn look_again<R: Threads + Sync + Abort>(rt: &R, alloc: Global, stops: &[Contents], engine: u32) {
-    let mut seen = NONE;
-    look_at(rt, alloc, stops, &mut seen);
-    if let Some(stop) = stops.last() {
-        if is_resumed(rt, alloc, stop, &ONE_EDGE) {
-            stop_again(rt, alloc, stop, engine);
+/// Goes on from what each stop left, and stops that once more by the values of each engine.
+fn look_again<R: Threads + Sync + Abort>(rt: &R, alloc: Global, stops: &[Contents]) {
+    for stop in stops {
+        if is_resumed(rt, alloc, stop, &ON_TWO) {
+            stop_again(rt, alloc, stop, 0);
+            stop_again(rt, alloc, stop, 1);
         }
     }
 }
 
-/// Fails each call of a device in a run, goes on from each image of it, and stops that by the values of an engine.
-fn stop_twice<R: Threads + Sync + Abort>(
-    rt: &R,
-    alloc: Global,
-    kind: Kind,
-    engine: u32,
-    other: u32,
-) {
+/// Fails each call of a device in a run, goes on from each image of it, and stops that again.
+fn stop_twice<R: Threads + Sync + Abort>(rt: &R, alloc: Global, kind: Kind, engine: u32) {
     let object = Object::new(kind, 0, engine);
     let held = Contents::empty(alloc);
     for number in 1..100 {
         let fault = Fault { object, number };
-        let stops = stopped(rt, alloc, &held, &ONE_EDGE, ONE_EDGE.run, &fault);
+        let stops = stopped(rt, alloc, &held, &ON_TWO, ON_TWO.run, &fault);
         if stops.is_empty() {
             return;
         }
-        look_again(rt, alloc, &stops, other);
+        look_again(rt, alloc, &stops);
     }
     assert!(rt; false, "a call never ends");
 }
 
 #[test]
-fn a_run_is_stopped_and_stopped_again(rt: HostRuntime) {
-    let alloc = rt.alloc();
-    stop_twice(&rt, alloc, Kind::Graph, 0, 0);
-    stop_twice(&rt, alloc, Kind::Graph, 1, 1);
-    stop_twice(&rt, alloc, Kind::Values, 0, 1);
-    stop_twice(&rt, alloc, Kind::Values, 1, 0);
+fn a_run_is_stopped_by_its_first_graph_device_and_stopped_again(rt: HostRuntime) {
+    stop_twice(&rt, rt.alloc(), Kind::Graph, 0);
+}
+
+#[test]
+fn a_run_is_stopped_by_its_second_graph_device_and_stopped_again(rt: HostRuntime) {
+    stop_twice(&rt, rt.alloc(), Kind::Graph, 1);
+}
+
+#[test]
+fn a_run_is_stopped_by_its_first_values_device_and_stopped_again(rt: HostRuntime) {
+    stop_twice(&rt, rt.alloc(), Kind::Values, 0);
+}
+
+#[test]
+fn a_run_is_stopped_by_its_second_values_device_and_stopped_again(rt: HostRuntime) {
+    stop_twice(&rt, rt.alloc(), Kind::Values, 1);
 }
