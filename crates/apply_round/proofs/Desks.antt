@@ -1,13 +1,11 @@
 -- Moves to desks and back.
-use Rattle.std.proofs.Common.{◌≡◌, ℕ, zero, suc, ◌+◌, ◌-◌, ◌^◌, ◌<◌, ◌≤◌, nat_lt, Bool, true, false, min, List, [], ◌∷◌, ◌++◌, length, map, sum, refl, sym, ◌∙◌, ap, subst, inl, inr, arith, get_or, slice_index_or}
+use Rattle.std.proofs.Common.{◌≡◌, ℕ, suc, ◌+◌, ◌-◌, ◌^◌, ◌<◌, ◌≤◌, nat_lt, Bool, true, false, min, List, [], ◌∷◌, ◌++◌, length, map, refl, sym, subst, arith, slice_index_or}
 use Rattle.std.specs.List.{All}
 use Rattle.std.proofs.lemmas.Grind.{common_steps}
 use Rattle.std.proofs.lemmas.Bool.{ltb-true, ltb-false}
-use Rattle.std.proofs.lemmas.List.{get_or_append_left, get_or_push, get_or-map}
+use Rattle.std.proofs.lemmas.List.{get_or_append_left, get_or_push}
 use Rattle.std.proofs.lemmas.List.Elements.{All-push}
 use Rattle.std.proofs.lemmas.List.Sums.{sum_by-cons}
-use Rattle.partitioner.specs.declared.split.Split.{Split}
-use Rattle.checkpoint.specs.Room.{IsRoomOf}
 use Rattle.checkpoint.specs.declared.apply.ApplyDesk.{ApplyDesk}
 use Rattle.apply_round.specs.Crew.{capped}
 

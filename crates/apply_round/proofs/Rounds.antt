@@ -1,22 +1,20 @@
 -- What apply makes on every engine is a round of all vertices.
-use Rattle.std.proofs.Common.{◌≡◌, ℕ, ◌+◌, ◌-◌, ◌^◌, ◌<◌, ◌≤◌, min, List, length, map, sum, sum_by, Option, Some, refl, sym, ◌∙◌, ap, subst, arith, slice_index, slice_index_or}
-use Rattle.std.specs.List.{All, range_with_len}
+use Rattle.std.proofs.Common.{◌≡◌, ℕ, ◌-◌, ◌<◌, List, length, map, sum, sym, ◌∙◌, ap, subst, arith, slice_index, slice_index_or}
+use Rattle.std.specs.List.{range_with_len}
 use Rattle.std.proofs.lemmas.List.FromFn.{length-range_with_len, fill_by_all}
 use Rattle.std.proofs.lemmas.List.Sums.{sum-map}
 use Rattle.graph_model.specs.declared.value.Value.{Value}
-use Rattle.graph_model.specs.Programs.{Rules}
-use Rattle.partitioner.specs.declared.split.Split.{Split}
 use Rattle.partitioner.specs.Splits.{IsSplit}
 use Rattle.partitioner.proofs.Made.{some_part}
 use Rattle.ports.specs.Disk.{DiskState, InEveryImage}
 use Rattle.ports.specs.Stops.{Leaves}
 use Rattle.store_model.specs.Slots.{slot_of, HoldsRound}
 use Rattle.store_reader.specs.Reading.{own_in}
-use Rattle.checkpoint.specs.Applied.{applied_on, changed_by}
-use Rattle.checkpoint.specs.Storing.{WhileStoring, EngineStandsBefore}
+use Rattle.checkpoint.specs.Applied.{changed_by}
+use Rattle.checkpoint.specs.Storing.{WhileStoring}
 use Rattle.apply_round.specs.Crew.{capped}
-use Rattle.apply_round.specs.Made.{made, changed_among, own_by, share_of, ShareStands, LeavesShare, HoldsShare}
-use Rattle.apply_round.specs.Applying.{RoundTerms, Tells, Applies, Stores, AppliesToEach, StoresOnEach, StandsBefore, MakesRound, applied_by}
+use Rattle.apply_round.specs.Made.{made, changed_among, own_by, share_of}
+use Rattle.apply_round.specs.Applying.{RoundTerms, Tells, AppliesToEach, StoresOnEach, StandsBefore, MakesRound, applied_by}
 use Rattle.apply_round.proofs.Desks.{any_of}
 use Rattle.apply_round.proofs.Shares.{share_made, changed_share, changed_among-le, changed_of_all, length-share, fit_share}
 

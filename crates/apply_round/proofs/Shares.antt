@@ -1,5 +1,5 @@
 -- The values of a round, engine by engine, are one list of all vertices.
-use Rattle.std.proofs.Common.{◌≡◌, ℕ, zero, suc, ◌+◌, ◌-◌, ◌*◌, ◌^◌, ◌<◌, ◌≤◌, nat_lt, ◌==◌, ◌&&◌, not, Bool, true, false, cond, if◌then◌else◌, List, [], ◌∷◌, ◌++◌, length, map, filter, take, drop, sum, sum_by, flat_map, Option, Some, refl, sym, ◌∙◌, ap, subst, arith, slice_index_or, lit<, add-one, add-zero, zero-add, length-append}
+use Rattle.std.proofs.Common.{◌≡◌, ℕ, zero, suc, ◌+◌, ◌-◌, ◌^◌, ◌<◌, ◌≤◌, nat_lt, ◌==◌, Bool, true, false, cond, if◌then◌else◌, List, [], ◌∷◌, ◌++◌, length, map, filter, sum_by, flat_map, Option, refl, sym, ◌∙◌, ap, subst, arith, slice_index_or, lit<, add-one, add-zero, zero-add}
 use Rattle.std.specs.List.{All, range_with_len, count_by}
 use Rattle.std.proofs.lemmas.List.{map-append, take_at, drop_at, get_or-map, get_or_past, length-map}
 use Rattle.std.proofs.lemmas.Bool.{ltb-true, ltb-false}
@@ -8,9 +8,8 @@ use Rattle.std.proofs.lemmas.List.Elements.{All-filter}
 use Rattle.std.proofs.lemmas.List.FromFn.{length-range_with_len, length-map-range_with_len, get_or-range_with_len}
 use Rattle.std.proofs.lemmas.List.Sums.{sum_by-append, sum_by-cons, sum_by_push, count_by-le-length}
 use Rattle.std.proofs.lemmas.List.Concat.{length-flat_map}
-use Rattle.std.proofs.lemmas.Grind.{flat_map-append}
 use Rattle.graph_model.specs.declared.value.Value.{Value}
-use Rattle.graph_model.specs.Partitions.{first_vertex, part_len, vertices_in, parts_of_master, master_of, own_count}
+use Rattle.graph_model.specs.Partitions.{first_vertex, part_len, vertices_in, parts_of_master, master_of}
 use Rattle.graph_model.specs.Programs.{Rules}
 use Rattle.graph_model.specs.Rounds.{merged, of_vertices, value_at, has_changed}
 use Rattle.graph_model.proofs.RoundLemmas.{get_or-of_vertices}

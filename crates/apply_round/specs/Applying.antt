@@ -13,7 +13,6 @@ use Rattle.replica_merge.specs.declared.replicas.Replicas.{Replicas}
 use Rattle.replica_merge.specs.Accumulators.{split_of, LiesWithin}
 use Rattle.store_model.specs.Slots.{slot_of, device_size, HoldsRound}
 use Rattle.store_reader.specs.Reading.{own_in}
-use Rattle.store_reader.specs.declared.store.Outcome.{Outcome}
 use Rattle.store_reader.specs.declared.store.Outcome.TheVariants.{Done}
 use Rattle.checkpoint.specs.Applied.{applied_on, changed_by}
 use Rattle.checkpoint.specs.SlotStates.{SameOther, IsOpenWith}
@@ -22,7 +21,7 @@ use Rattle.checkpoint.specs.Room.{IsRoomOf}
 use Rattle.checkpoint.specs.declared.apply.ApplyContext.{ApplyContext}
 use Rattle.checkpoint.specs.declared.apply.ApplyDesk.{ApplyDesk}
 use Rattle.apply_round.specs.Crew.{capped}
-use Rattle.apply_round.specs.Made.{AreMerged, ShareStands, LeavesShare, HoldsShare, made, changed_among}
+use Rattle.apply_round.specs.Made.{AreMerged, ShareStands, LeavesShare, HoldsShare, changed_among}
 
 -- What is lent to apply, as far as the values that it makes depend on it.
 pub record RoundTerms : Type 0 where

@@ -1,5 +1,5 @@
 -- The desks of apply, the crew that they are made of, and how apply ends over all engines.
-use Rattle.std.specs.Prelude.{◌≡◌, ◌⊎◌, ℕ, ◌+◌, ◌-◌, ◌^◌, ◌<◌, ◌≤◌, min, List, [], ◌∷◌, length, map, sum, slice_index, slice_index_or, vec_len, vec_capacity}
+use Rattle.std.specs.Prelude.{◌≡◌, ◌⊎◌, ℕ, ◌-◌, ◌^◌, ◌<◌, ◌≤◌, min, List, length, map, sum, slice_index, slice_index_or, vec_len, vec_capacity}
 use Rattle.std.specs.List.{All}
 use Rattle.partitioner.specs.declared.split.Split.{Split}
 use Rattle.ports.specs.Faults.{Rose}
@@ -7,7 +7,6 @@ use Rattle.store_reader.specs.declared.store.Outcome.{Outcome}
 use Rattle.store_reader.specs.declared.store.Outcome.TheVariants.{Done, DiskFault}
 use Rattle.checkpoint.specs.Room.{IsRoomOf}
 use Rattle.checkpoint.specs.declared.apply.ApplyDesk.{ApplyDesk}
-use Rattle.checkpoint.specs.declared.room.ApplyRoom.{ApplyRoom}
 use Rattle.apply_round.specs.declared.crew.ApplyCrew.{ApplyCrew}
 
 -- the crew has buffers for each engine, and room for a desk of each

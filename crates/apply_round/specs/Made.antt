@@ -1,10 +1,9 @@
 -- The values of a round of all vertices, in order of ids, and what stands of them on the values device of an engine.
-use Rattle.std.specs.Prelude.{◌≡◌, ℕ, ◌+◌, ◌-◌, ◌<◌, ◌≤◌, zero, suc, if◌then◌else◌, List, length, map, count_by, Option, Some}
+use Rattle.std.specs.Prelude.{◌≡◌, ℕ, ◌+◌, ◌<◌, ◌≤◌, zero, suc, if◌then◌else◌, List, length, map, count_by, Option, Some}
 use Rattle.graph_model.specs.declared.value.Value.{Value}
 use Rattle.graph_model.specs.Partitions.{first_vertex, own_vertices}
 use Rattle.graph_model.specs.Programs.{Rules}
 use Rattle.graph_model.specs.Rounds.{merged, of_vertices, value_at, has_changed}
-use Rattle.gather_laws.specs.Laws.{HaveRoom}
 use Rattle.partitioner.specs.declared.split.Split.{Split}
 use Rattle.ports.specs.Disk.{DiskState, InEveryImage}
 use Rattle.ports.specs.Stops.{Leaves}

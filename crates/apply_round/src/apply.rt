@@ -1,12 +1,8 @@
 // Apply on all engines at once.
-ghost use Rattle.std.specs.Prelude.{◌≡◌, ℕ, ◌+◌, ◌<◌, ◌≤◌, All, Option, Some, List, length, map, slice_index_or, vec_len, vec_capacity};
+ghost use Rattle.std.specs.Prelude.{◌≡◌, ℕ, ◌+◌, ◌<◌, ◌≤◌, All, List, length, map, slice_index_or, vec_len, vec_capacity};
 ghost use Rattle.graph_model.specs.declared.value.Value.{Value};
-ghost use Rattle.partitioner.specs.Splits.{IsSplit};
-ghost use Rattle.replica_merge.specs.Accumulators.{split_of, LiesWithin};
-ghost use Rattle.replica_merge.specs.declared.replicas.Replicas.{Replicas};
 ghost use Rattle.store_model.specs.Slots.{device_size};
 ghost use Rattle.store_reader.specs.Reading.{own_in};
-ghost use Rattle.checkpoint.specs.Room.{IsRoomOf};
 ghost use Rattle.checkpoint.specs.declared.apply.ApplyDesk.{ApplyDesk as Desk};
 ghost use Rattle.worker_outcomes.specs.Lowest.{lowest_outcome};
 ghost use Rattle.apply_round.specs.Crew.{IsCrewOf, EndsByCauses, capped};

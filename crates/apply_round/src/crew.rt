@@ -1,8 +1,7 @@
 // What the engines of apply work with, and how it is dealt to desks and collected.
-ghost use Rattle.std.specs.Prelude.{◌≡◌, ◌+◌, ◌≤◌, IfOk, All, length, map, vec_len, vec_capacity};
+ghost use Rattle.std.specs.Prelude.{◌≡◌, ◌≤◌, IfOk, All, vec_len, vec_capacity};
 ghost use Rattle.partitioner.specs.Splits.{IsSplit};
 ghost use Rattle.checkpoint.specs.Room.{IsRoomOf};
-ghost use Rattle.checkpoint.specs.declared.apply.ApplyDesk.{ApplyDesk as Desk};
 ghost use Rattle.apply_round.specs.Crew.{AreDealt};
 
 use checkpoint::{ApplyDesk, ApplyRoom};

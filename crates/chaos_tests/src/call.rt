@@ -1,5 +1,5 @@
 //! Calls of the program on a world.
-ghost use Rattle.std.specs.Prelude.{◌≡◌, ◌^◌, ◌≤◌};
+ghost use Rattle.std.specs.Prelude.{◌≡◌};
 ghost use Rattle.round_loop.specs.Keeping.{moment};
 ghost use Rattle.run_model.specs.Calls.{IsReady};
 

@@ -1,6 +1,5 @@
 //! Devices that tell nothing of what they hold, one of which gives workers another byte from a turn on.
 ghost use Rattle.std.specs.Prelude.{None};
-ghost use Rattle.ports.specs.Disk.{DiskState};
 
 use mem_devices::{MemDisk, MemMeter};
 use ports::{Beat, Disk, Failed, Gate, Meter};

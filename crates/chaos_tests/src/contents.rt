@@ -1,5 +1,4 @@
 //! What stands on the devices of a store, and what a stop may leave of it.
-ghost use Rattle.std.specs.Prelude.{◌≡◌, length};
 
 use crate::call::call;
 use crate::jobs::Small;

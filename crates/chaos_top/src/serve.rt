@@ -1,5 +1,5 @@
 // What each command does.
-ghost use Rattle.std.specs.Prelude.{◌≡◌, ℕ, ◌+◌, ◌^◌, ◌≤◌, List, Some};
+ghost use Rattle.std.specs.Prelude.{◌≡◌, ◌+◌, ◌^◌, ◌≤◌, Some};
 ghost use Rattle.job_words.specs.Commands.{IsInRanges, engines_of};
 ghost use Rattle.round_loop.specs.Keeping.{moment};
 ghost use Rattle.run_model.specs.Calls.{IsReady};

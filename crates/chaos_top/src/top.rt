@@ -1,5 +1,5 @@
 // The top call.
-ghost use Rattle.std.specs.Prelude.{◌≡◌, ℕ, ◌+◌, ◌^◌, ◌≤◌, List, Some, map, string_bytes};
+ghost use Rattle.std.specs.Prelude.{◌≡◌, ◌+◌, ◌^◌, ◌≤◌, Some, map, string_bytes};
 ghost use Rattle.job_words.specs.Commands.{command_of, engines_of};
 ghost use Rattle.round_loop.specs.Keeping.{moment};
 ghost use Rattle.endings.specs.declared.ending.Ending.{Ending};

@@ -1,19 +1,17 @@
 // Making a round of the accumulators of all workers, and storing it.
-ghost use Rattle.std.specs.Prelude.{◌≡◌, ℕ, ◌+◌, ◌-◌, ◌*◌, ◌%◌, ◌^◌, ◌<◌, ◌≤◌, List, All, Some, zero, map, length, OnOk, IfOk, slice_index_or};
+ghost use Rattle.std.specs.Prelude.{◌≡◌, ℕ, ◌+◌, ◌-◌, ◌*◌, ◌%◌, ◌^◌, ◌<◌, ◌≤◌, List, All, Some, map, length, OnOk, IfOk, slice_index_or};
 ghost use Rattle.graph_model.specs.Partitions.{parts_of_master};
-ghost use Rattle.partitioner.specs.Splits.{IsSplit, own_below};
-ghost use Rattle.ports.specs.Bytes.{bytes_at};
+ghost use Rattle.partitioner.specs.Splits.{IsSplit};
 ghost use Rattle.ports.specs.Disk.{InEveryImage, IsSettled};
 ghost use Rattle.ports.specs.Faults.{HasCause, HasCauseOfTwo};
 ghost use Rattle.ports.specs.Stops.{Leaves};
 ghost use Rattle.ports.specs.Told.{AsTold};
 ghost use Rattle.replica_merge.specs.Accumulators.{split_of, LiesWithin};
-ghost use Rattle.store_reader.specs.Reading.{own_in, master_in, len_in, before_in};
-ghost use Rattle.store_model.specs.Slots.{device_size, slot_of, slot_start, slot_values, set_bytes, values_bytes, IsClosed, HoldsRound};
+ghost use Rattle.store_reader.specs.Reading.{own_in, master_in, len_in};
+ghost use Rattle.store_model.specs.Slots.{device_size, slot_of, IsClosed, HoldsRound};
 ghost use Rattle.checkpoint.specs.declared.room.ApplyRoom.{ApplyRoom};
 ghost use Rattle.replica_merge.specs.declared.replicas.Replicas.{Replicas};
-ghost use Rattle.gather_laws.specs.Laws.{HaveRoom};
-ghost use Rattle.checkpoint.specs.Applied.{sums_in, values_in, applied, applied_on, changed_by};
+ghost use Rattle.checkpoint.specs.Applied.{sums_in, values_in, applied_on, changed_by};
 ghost use Rattle.checkpoint.specs.Room.{IsRoomOf};
 ghost use Rattle.checkpoint.specs.Storing.{KeepsOther, WhileStoring, EndsByCause, StandBefore, EngineStandsBefore, EngineBefore, StoresPartition, StoresFront};
 ghost use Rattle.checkpoint.specs.SlotStates.{HasExactSize, SameOther, WhileClosing, WhileWriting, IsOpenWith};

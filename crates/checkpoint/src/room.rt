@@ -1,5 +1,5 @@
 // The buffers of apply.
-ghost use Rattle.std.specs.Prelude.{◌≡◌, IfOk};
+ghost use Rattle.std.specs.Prelude.{IfOk};
 ghost use Rattle.partitioner.specs.Splits.{IsSplit};
 
 use crate::bytes::WIDTH;

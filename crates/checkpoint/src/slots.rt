@@ -1,5 +1,5 @@
 // Closing, writing and opening a slot of a values device.
-ghost use Rattle.std.specs.Prelude.{◌≡◌, ℕ, ◌+◌, ◌*◌, ◌^◌, ◌<◌, ◌≤◌, [], ◌∷◌, length, OnOk};
+ghost use Rattle.std.specs.Prelude.{◌≡◌, ◌+◌, ◌*◌, ◌^◌, ◌<◌, ◌≤◌, [], ◌∷◌, length, OnOk};
 ghost use Rattle.partitioner.specs.Splits.{IsSplit};
 ghost use Rattle.ports.specs.Bytes.{Torn, after_write};
 ghost use Rattle.ports.specs.Disk.{InEveryImage, IsSettled};

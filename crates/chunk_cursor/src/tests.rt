@@ -1,5 +1,4 @@
 ghost use Rattle.std.specs.Prelude.{◌≡◌, ◌+◌, ◌<◌, ◌≤◌};
-ghost use Rattle.chunk_object.specs.History.{most_chunks};
 ghost use Rattle.chunk_cursor.specs.View.{IsFirst, IsAlone, OutWithin, MayClaim};
 ghost use Rattle.chunk_cursor.specs.Claiming.{MayClaimWithin, IsFreshBelow, HasDrained};
 

@@ -1,5 +1,5 @@
 //! The bytes of one chunk, written and read.
-ghost use Rattle.std.specs.Prelude.{◌≡◌, ℕ, ◌+◌, ◌*◌, ◌^◌, ◌<◌, ◌≤◌, true, length, take, flat_map, IfSome, IfNone};
+ghost use Rattle.std.specs.Prelude.{◌≡◌, ℕ, ◌+◌, ◌*◌, ◌^◌, ◌<◌, ◌≤◌, true, length, flat_map, IfSome, IfNone};
 ghost use Rattle.std.specs.List.{All, list_all};
 ghost use Rattle.partitioner.specs.Splits.{IsSplit};
 ghost use Rattle.chunk_model.specs.ChunkBytes.{chunk_bytes, chunk_width};

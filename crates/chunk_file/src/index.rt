@@ -1,5 +1,5 @@
 //! Where the chunks of each engine and partition stand.
-ghost use Rattle.std.specs.Prelude.{◌≡◌, ℕ, ◌+◌, ◌*◌, ◌^◌, ◌<◌, ◌≤◌, Some, length, map, replicate, slice_get, IfOk, OnOk, OnErr};
+ghost use Rattle.std.specs.Prelude.{◌≡◌, ◌+◌, ◌*◌, ◌^◌, ◌<◌, Some, length, map, replicate, slice_get, IfOk, OnOk, OnErr};
 ghost use Rattle.chunk_file.specs.Places.{places_of, total_of, with_place, no_places};
 
 use ports::Memory;

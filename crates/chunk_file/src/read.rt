@@ -1,9 +1,9 @@
 //! One chunk, from a device.
-ghost use Rattle.std.specs.Prelude.{◌≡◌, ℕ, ◌+◌, ◌-◌, ◌<◌, ◌≤◌, min, length, take, IfOk, IfErr, IfSome};
+ghost use Rattle.std.specs.Prelude.{◌≡◌, ◌+◌, ◌-◌, ◌<◌, ◌≤◌, min, length, take, IfOk, IfErr, IfSome};
 ghost use Rattle.ports.specs.Bytes.{bytes_at};
 ghost use Rattle.ports.specs.Faults.{HasCause, Rose};
 ghost use Rattle.partitioner.specs.Splits.{IsSplit};
-ghost use Rattle.chunk_model.specs.ChunkBytes.{StandsAt, chunk_bytes, chunk_width};
+ghost use Rattle.chunk_model.specs.ChunkBytes.{chunk_width};
 ghost use Rattle.chunk_file.specs.Chunks.{AreChunkIn, IsChunkIn, NoChunkIn};
 ghost use Rattle.chunk_file.specs.Causes.{HasChunkCause};
 

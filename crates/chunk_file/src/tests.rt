@@ -1,6 +1,5 @@
 // Bytes that were worked out by hand, and each change and cut of a small device.
 ghost use Rattle.std.specs.Prelude.{◌≡◌, ◌+◌, ◌<◌, ◌≤◌, length, IfOk};
-ghost use Rattle.std.specs.Int.{IsInRange};
 ghost use Rattle.mem_devices.specs.MemDisk.{disk_state};
 ghost use Rattle.partitioner.specs.Splits.{IsSplit};
 ghost use Rattle.chunk_file.specs.Places.{total_of};

@@ -1,5 +1,5 @@
 //! All chunks of a graph device.
-ghost use Rattle.std.specs.Prelude.{◌≡◌, ℕ, ◌+◌, ◌<◌, ◌≤◌, [], List, length, take, drop, IfOk, IfErr, IfSome, OnOk, ⊤};
+ghost use Rattle.std.specs.Prelude.{◌≡◌, ℕ, ◌+◌, ◌<◌, ◌≤◌, [], List, length, IfOk, IfErr, IfSome, OnOk, ⊤};
 ghost use Rattle.std.specs.Int.{IsInRange};
 ghost use Rattle.ports.specs.Faults.{Rose};
 ghost use Rattle.partitioner.specs.Splits.{IsSplit};

@@ -1,4 +1,4 @@
-ghost use Rattle.std.specs.Prelude.{◌≡◌, ℕ, ◌+◌, ◌-◌, ◌^◌, ◌++◌, List, [], Bool, false, min, Err, OnOk, IfErr};
+ghost use Rattle.std.specs.Prelude.{◌≡◌, ℕ, ◌+◌, ◌-◌, ◌++◌, List, [], Bool, false, min, Err, OnOk, IfErr};
 ghost use Rattle.std.specs.Result.{result_err};
 ghost use Rattle.graph_model.specs.EdgeText.{directions, edges_said, is_malformed};
 ghost use Rattle.edge_reader.specs.Line.{line_end};

@@ -1,5 +1,5 @@
 -- After the last join of an epoch no epoch is open.
-use Rattle.std.proofs.Common.{◌≡◌, ℕ, zero, suc, ◌+◌, ◌<◌, ◌≤◌, true, eqb, List, [], ◌∷◌, ◌++◌, map, get_or, length, refl, ap, sym, ◌∙◌, subst, arith, append_assoc, ne_eqb}
+use Rattle.std.proofs.Common.{◌≡◌, ℕ, zero, suc, ◌+◌, ◌≤◌, true, eqb, List, [], ◌∷◌, ◌++◌, map, get_or, refl, ap, sym, ◌∙◌, subst, arith, append_assoc, ne_eqb}
 use Rattle.std.proofs.lemmas.Bool.{cond-false}
 use Rattle.std.specs.List.{range_with_len}
 use Rattle.std.proofs.lemmas.List.Elements.{filter-append}
@@ -13,7 +13,7 @@ use Rattle.chunk_cursor.specs.declared.view.View.{View}
 use Rattle.chunk_cursor.specs.View.{IsAlone}
 use Rattle.chunk_cursor.specs.Hold.{Hold}
 use Rattle.chunk_cursor.proofs.Knowing.{none_within}
-use Rattle.epoch_seats.specs.Between.{IsBetweenEpochs, HasEnded}
+use Rattle.epoch_seats.specs.Between.{HasEnded}
 use Rattle.epoch_seats.specs.Seats.{HasBegun, IsSeatOf, AreSeats, epoch_with}
 use Rattle.epoch_seats.specs.Joining.{joined}
 use Rattle.epoch_seats.proofs.Joining.{lists_of, SeatsFrom, joined-number, joined-story, joined-out}

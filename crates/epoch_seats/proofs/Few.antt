@@ -1,14 +1,14 @@
 -- In an epoch few chunks are taken, and help is admitted a few times: no more than cursors have chunks, and than there are partitions.
 use Rattle.std.proofs.Common.{◌≡◌, ◌≢◌, ℕ, zero, suc, ◌+◌, ◌*◌, ◌/◌, ◌%◌, ◌<◌, ◌≤◌, Bool, true, false, cond, ◌&&◌, eqb, List, [], ◌∷◌, ◌++◌, length, get_or, refl, ap, sym, ◌∙◌, subst, ◌⊎◌, inl, inr, ⊎_elim, arith}
 use Rattle.std.specs.List.{All, AllByRecursion, count_by, filter, flat_map}
-use Rattle.std.proofs.lemmas.Bool.{cases_Bool, cases_eq, cases_lt, cond-true, cond-false, and_parts, and_left, eqb-true, false≢true, false_from_ne_true}
+use Rattle.std.proofs.lemmas.Bool.{cases_Bool, cases_eq, cases_lt, cond-true, cond-false, and_parts, eqb-true, false≢true, false_from_ne_true}
 use Rattle.std.proofs.lemmas.Bool.Decides.{nat_tests}
 use Rattle.std.proofs.lemmas.List.{length-append}
 use Rattle.std.proofs.lemmas.List.Elements.{recursion_from_All}
 use Rattle.chunk_object.specs.declared.call.Call.{Call}
 use Rattle.chunk_object.specs.declared.call.Call.TheVariants.{Open, Greet, Took, Exhausted, Look, Heads, Admitted, Contended, Split, Join}
 use Rattle.chunk_object.specs.declared.call.Entry.{Entry}
-use Rattle.chunk_object.specs.History.{total, count_since, opens, takes_any, most_chunks, opened_len, object_after, IsCaller, StandsWhole}
+use Rattle.chunk_object.specs.History.{total, count_since, opens, takes_any, most_chunks, opened_len, object_after, IsCaller}
 use Rattle.chunk_object.specs.Epochs.{cursor_of, Terms, Epoch, all_calls, list_of}
 use Rattle.chunk_object.specs.Duty.{partition_of, is_on, IsClaim, ClaimsToTheEnd, looks_from, FollowsHeads, Helps, IsMaster, IsDutiful}
 use Rattle.chunk_object.proofs.Histories.{total_zero, total_same, total_one_more}

@@ -1,9 +1,9 @@
 -- The story of the first seat as the seats of an epoch come back.
-use Rattle.std.proofs.Common.{◌≡◌, ◌⊎◌, ℕ, suc, ◌+◌, ◌<◌, ◌≤◌, List, [], ◌∷◌, ◌++◌, map, get_or, length, refl, ap, sym, ◌∙◌, subst, arith, append_assoc, add-one}
+use Rattle.std.proofs.Common.{◌≡◌, ℕ, suc, ◌+◌, ◌<◌, List, [], ◌∷◌, ◌++◌, map, get_or, length, refl, ap, sym, ◌∙◌, subst, arith, append_assoc, add-one}
 use Rattle.std.proofs.lemmas.List.{append-nil}
 use Rattle.chunk_object.specs.declared.call.Call.{Call}
 use Rattle.chunk_object.specs.declared.call.Call.TheVariants.{Join}
-use Rattle.chunk_object.specs.Epochs.{entry_of, first_entries, returns_of}
+use Rattle.chunk_object.specs.Epochs.{entry_of, returns_of}
 use Rattle.chunk_cursor.specs.declared.view.View.{View}
 use Rattle.chunk_cursor.specs.View.{entry, OutWithin, IsFirst, after_join}
 use Rattle.chunk_cursor.specs.Hold.{Hold}

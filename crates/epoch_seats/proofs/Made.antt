@@ -5,7 +5,7 @@ use Rattle.std.proofs.lemmas.List.{get_or-map, length-map, length-append}
 use Rattle.std.proofs.lemmas.List.Sums.{sum_by-cons}
 use Rattle.chunk_object.specs.declared.call.Call.{Call}
 use Rattle.chunk_object.specs.History.{most_chunks}
-use Rattle.chunk_object.specs.Epochs.{Terms, Epoch, all_calls, list_of}
+use Rattle.chunk_object.specs.Epochs.{Terms, Epoch, all_calls}
 use Rattle.chunk_object.specs.Duty.{IsDutiful, BeginsDutiful, MeetsDuty}
 use Rattle.chunk_object.proofs.Covered.{count_by-append}
 use Rattle.chunk_object.proofs.Dutiful.{duty_takes_each}

@@ -1,14 +1,13 @@
 -- The seats that are split off, one worker after another.
-use Rattle.std.proofs.Common.{◌≡◌, ℕ, suc, ◌+◌, ◌<◌, ◌≤◌, true, false, List, [], ◌∷◌, ◌++◌, map, get_or, length, refl, ap, sym, ◌∙◌, subst, inl, inr, arith, append_assoc, add-one}
+use Rattle.std.proofs.Common.{◌≡◌, ℕ, suc, ◌+◌, ◌≤◌, true, false, List, [], ◌∷◌, ◌++◌, map, get_or, length, refl, ap, sym, ◌∙◌, subst, arith, append_assoc, add-one}
 use Rattle.std.specs.List.{range_with_len}
 use Rattle.std.proofs.lemmas.List.{append-nil, map-append}
 use Rattle.std.proofs.lemmas.List.FromFn.{map-range_with_len_more, length-map-range_with_len, get_or-map-range_with_len}
 use Rattle.chunk_object.specs.declared.call.Call.TheVariants.{Split}
-use Rattle.chunk_object.specs.declared.call.Entry.{Entry}
 use Rattle.chunk_object.specs.History.{epoch_of}
 use Rattle.chunk_object.specs.Epochs.{Terms, entry_of, first_entries, opens_of, greets_of, splits_of}
 use Rattle.chunk_cursor.specs.declared.view.View.{View}
-use Rattle.chunk_cursor.specs.View.{entry, with_calls, OutWithin, IsFirst, IsAlone, after_split, split_off}
+use Rattle.chunk_cursor.specs.View.{entry, with_calls, OutWithin, IsAlone, after_split, split_off}
 use Rattle.chunk_cursor.specs.Hold.{Hold, TableId}
 use Rattle.chunk_cursor.proofs.Knowing.{within_alone, within_split}
 use Rattle.worker_duty.proofs.Beginnings.{may_work}

@@ -1,5 +1,5 @@
 //! The end of an epoch.
-ghost use Rattle.std.specs.Prelude.{◌≡◌, ◌≤◌, ℕ, All, map, fold, vec_len, vec_capacity};
+ghost use Rattle.std.specs.Prelude.{◌≡◌, ◌≤◌, ℕ, All, vec_len, vec_capacity};
 ghost use Rattle.chunk_object.specs.Epochs.{Terms};
 ghost use Rattle.chunk_cursor.specs.declared.view.View.{View};
 ghost use Rattle.chunk_cursor.specs.View.{IsFirst};

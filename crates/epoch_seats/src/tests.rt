@@ -1,7 +1,6 @@
 //! Two workers at the cursors of two epochs.
 ghost use Rattle.std.specs.Prelude.{◌≡◌, ℕ, ◌≤◌, vec_len, vec_capacity};
 ghost use Rattle.graph_model.specs.Jobs.{IsWellFormedJob};
-ghost use Rattle.partitioner.specs.Splits.{IsSplit, IsSplitOf};
 ghost use Rattle.store_reader.specs.Indexed.{lens_of};
 ghost use Rattle.epoch_seats.specs.Between.{IsBetweenEpochs};
 
@@ -33,17 +32,6 @@ fn job() -> Job
     }
 }
 
-fn split_of_job(rt: &impl Abort, job: &Job) -> Split
-    requires { IsWellFormedJob job.now }
-    ensures split { IsSplit result }
-    ensures of_job { IsSplitOf job.now result }
-{
-    match Split::of(job.vertices, job.engines, job.most) {
-        Some(split) => split,
-        None => panic!(rt; "four vertices have a split"),
-    }
-}
-
 /// One chunk, of the first partition on the second engine.
 fn index_of_one(rt: &impl Abort, alloc: Global) -> Index
     ensures { (cursor : ℕ) → lens_of result cursor ≤ 1 }
@@ -72,7 +60,7 @@ fn idle(
     ensures room { (vec_len seats.new ≡ 0) × (2 ≤ vec_capacity seats.new) }
 {
     let job = job();
-    let split = split_of_job(rt, &job);
+    let split = Split::of_job(&job);
     open_epoch(table, seat, &job, &split, index, seats);
     close_epoch(table, seat, seats);
 }
@@ -92,7 +80,7 @@ fn look_around(
     ensures room { vec_len seats.new ≡ 0 }
 {
     let job = job();
-    let split = split_of_job(rt, &job);
+    let split = Split::of_job(&job);
     open_epoch(table, seat, &job, &split, index, seats);
     assert_eq!(rt; table.look(&mut seats[1], 64), 1);
     assert_eq!(rt; table.look(&mut seats[1], 0), 0);

@@ -1,14 +1,12 @@
 -- From what each desk came to, to what all workers have done.
-use Rattle.std.proofs.Common.{◌≡◌, ◌≢◌, ℕ, ◌+◌, ◌-◌, ◌^◌, ◌<◌, ◌≤◌, Some, min, Vec, List, [], ◌∷◌, map, length, get_or, refl, ap, sym, ◌∙◌, subst, ◌⊎◌, inl, inr, ⊎_elim, arith}
+use Rattle.std.proofs.Common.{◌≡◌, ◌≢◌, ℕ, ◌-◌, ◌^◌, ◌<◌, ◌≤◌, min, Vec, List, [], ◌∷◌, map, length, get_or, ap, sym, ◌∙◌, subst, ◌⊎◌, inl, inr, ⊎_elim, arith}
 use Rattle.std.specs.List.{All, range_with_len, sum_by}
 use Rattle.std.specs.Vec.{with_items}
 use Rattle.std.proofs.lemmas.List.{get_or-map, length-map}
 use Rattle.std.proofs.lemmas.List.FromFn.{get_or-range_with_len}
 use Rattle.graph_model.specs.Programs.{Rules}
-use Rattle.graph_model.specs.declared.job.Job.{Job}
 use Rattle.ports.specs.Disk.{DiskState}
 use Rattle.ports.specs.Faults.{Rose}
-use Rattle.chunk_object.specs.declared.call.Call.{Call}
 use Rattle.chunk_object.specs.History.{most_chunks}
 use Rattle.chunk_object.specs.Epochs.{Terms, list_of}
 use Rattle.chunk_object.specs.Duty.{IsDutiful, BeginsDutiful}
@@ -27,7 +25,6 @@ use Rattle.gather_phase.specs.declared.desk.GatherDesk.{GatherDesk}
 use Rattle.gather_phase.specs.declared.desk.GatherRoom.{GatherRoom}
 use Rattle.gather_phase.specs.Rooms.{IsRoom}
 use Rattle.gather_phase.specs.Phases.{MayStopBy}
-use Rattle.gather_phase.specs.Gathered.{HasGathered}
 use Rattle.worker_outcomes.specs.Lowest.{lowest_outcome, IsLowestAt}
 use Rattle.worker_outcomes.proofs.Lowest.{all_done, is_of}
 use Rattle.epoch_seats.specs.Between.{HasEnded}

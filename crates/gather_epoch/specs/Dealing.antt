@@ -1,6 +1,5 @@
 -- What the workers own, at their desks and in its lists.
 use Rattle.std.specs.Prelude.{◌≡◌, ℕ, List, map}
-use Rattle.std.specs.List.{range_with_len}
 use Rattle.chunk_cursor.specs.Hold.{Hold}
 use Rattle.replica_merge.specs.declared.replicas.Replicas.{Replicas}
 use Rattle.store_reader.specs.declared.store.Outcome.{Outcome}

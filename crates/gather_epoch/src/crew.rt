@@ -1,5 +1,5 @@
 //! What the workers of gather epochs have at hand from epoch to epoch.
-ghost use Rattle.std.specs.Prelude.{◌≡◌, ◌≤◌, IfOk, All, vec_len, vec_capacity};
+ghost use Rattle.std.specs.Prelude.{◌≡◌, IfOk, All, vec_len};
 ghost use Rattle.graph_model.specs.Jobs.{IsWellFormedJob};
 ghost use Rattle.gather_phase.specs.Rooms.{IsRoom};
 

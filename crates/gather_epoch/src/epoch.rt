@@ -1,9 +1,8 @@
 //! A gather epoch.
 ghost use Rattle.std.specs.Prelude.{◌≡◌, ◌≢◌, ◌⊎◌, ℕ, ◌<◌, ◌≤◌, All, OnOk, OnErr, length, vec_len, vec_capacity, slice_index_or};
 ghost use Rattle.ports.specs.Faults.{Rose};
-ghost use Rattle.phase_model.specs.JobTerms.{terms_of};
 ghost use Rattle.replica_merge.specs.Accumulators.{split_of};
-ghost use Rattle.store_reader.specs.Indexed.{IsServing, lens_of};
+ghost use Rattle.store_reader.specs.Indexed.{IsServing};
 ghost use Rattle.gather_phase.specs.Phases.{MayStopBy};
 ghost use Rattle.epoch_seats.specs.Between.{IsBetweenEpochs};
 ghost use Rattle.gather_epoch.specs.Crews.{IsCrew};

@@ -1,5 +1,5 @@
 //! What a worker does with a chunk.
-ghost use Rattle.std.specs.Prelude.{◌≡◌, ℕ, ◌+◌, ◌*◌, ◌<◌, ◌≤◌, true, false, Some, length, take};
+ghost use Rattle.std.specs.Prelude.{◌≡◌, ◌*◌, ◌<◌, ◌≤◌, true, false, Some, length, take};
 ghost use Rattle.ports.specs.Faults.{Rose};
 ghost use Rattle.graph_model.specs.Programs.{plus as capped_sum};
 ghost use Rattle.chunk_object.specs.Epochs.{cursor_of};

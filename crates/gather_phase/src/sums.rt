@@ -1,5 +1,5 @@
 //! What a chunk adds to the sums of its partition.
-ghost use Rattle.std.specs.Prelude.{◌≡◌, ◌+◌, ◌<◌, ◌≤◌, length};
+ghost use Rattle.std.specs.Prelude.{◌<◌, length};
 ghost use Rattle.graph_model.specs.Programs.{plus as capped_sum};
 ghost use Rattle.phase_model.specs.Sums.{counts_of};
 ghost use Rattle.gather_phase.specs.Summing.{AreWithin, ComeFrom, HasSummed};

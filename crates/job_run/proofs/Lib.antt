@@ -1,4 +1,3 @@
 pub mod Meters
-pub mod Splits
 pub mod Runs
 mod Made

@@ -17,7 +17,7 @@ use Rattle.store_reader.specs.declared.store.Store.{Store}
 use Rattle.storage_engine.specs.declared.fault.PrepareFault.{PrepareFault}
 use Rattle.storage_engine.specs.Preparing.{Prepares, IsMadeValues}
 use Rattle.round_steps.specs.Going.{AreDevices, AreRows, IsStore}
-use Rattle.round_loop.specs.Starts.{split_for}
+use Rattle.partitioner.specs.Splits.{split_for}
 
 -- no cursor has more chunks than there are places in all
 pub few_made : (result : Result (List (List Place)) PrepareFault) (index : List (List Place)) → result ≡ Ok index → IfOk result (λ index. total_of index ≤ MOST_PLACES) → (cursor : ℕ) → lens_of index cursor ≤ most_chunks

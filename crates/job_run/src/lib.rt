@@ -13,4 +13,4 @@ mod run;
 mod tests;
 
 pub use finish::Finish;
-pub use run::{run_job, split_of};
+pub use run::run_job;

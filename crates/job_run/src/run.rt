@@ -2,13 +2,12 @@
 ghost use Rattle.std.specs.Prelude.{◌≡◌, ℕ, ◌+◌, ◌^◌, ◌≤◌, Some, vec_len};
 ghost use Rattle.graph_model.specs.Jobs.{IsWellFormedJob};
 ghost use Rattle.graph_model.specs.Programs.{rules_of, shows_side};
-ghost use Rattle.partitioner.specs.Splits.{IsSplit};
+ghost use Rattle.partitioner.specs.Splits.{split_for};
 ghost use Rattle.chunk_object.specs.History.{most_chunks};
 ghost use Rattle.store_reader.specs.Indexed.{lens_of};
 ghost use Rattle.epoch_seats.specs.Between.{IsBetweenEpochs};
 ghost use Rattle.answer_lines.specs.Room.{IsRoom};
 ghost use Rattle.round_steps.specs.Going.{IsStore};
-ghost use Rattle.round_loop.specs.Starts.{split_for};
 ghost use Rattle.round_loop.specs.Keeping.{moment};
 ghost use Rattle.round_loop.specs.Conditions.{MOST_ROUNDS};
 ghost use Rattle.round_loop.specs.Run.{HasRun};
@@ -127,23 +126,11 @@ fn run_program<R: Threads + Sync, P: VertexProgram, K: Sink, D: Disk, G: Gate + 
     ensures printed { Prints D.state (split_for job.now) store.new.values.items (shows_side job.now.program) result (K.written out.old) (K.written out.new) }
     ensures cause { HasFinishCause D.M.faults meters.old.items meters.new.items (K.faults out.old) (K.faults out.new) result }
 {
-    let split = split_of(job);
+    let split = Split::of_job(job);
     match run_rounds(
         rt, alloc, program, job, start, index, store, table, seat, meters, gate, beat,
     ) {
         Ok(done) => answer(job.program, &split, done, &store.values, meters, room, out),
         Err(fault) => Finish::Stopped(fault),
-    }
-}
-
-/// The split of a job.
-pub fn split_of(job: &Job) -> Split
-    requires { IsWellFormedJob job.now }
-    ensures split { IsSplit result }
-    ensures same { result ≡ split_for job.now }
-{
-    match Split::of(job.vertices, job.engines, job.most) {
-        Some(split) => split,
-        None => unreachable!(),
     }
 }

@@ -6,10 +6,10 @@ ghost use Rattle.mem_devices.specs.MemDisk.{disk_state};
 ghost use Rattle.chunk_object.specs.History.{most_chunks};
 ghost use Rattle.store_reader.specs.Indexed.{lens_of};
 ghost use Rattle.round_steps.specs.Going.{IsStore};
-ghost use Rattle.round_loop.specs.Starts.{split_for};
+ghost use Rattle.partitioner.specs.Splits.{split_for};
 
 use crate::finish::Finish;
-use crate::run::{run_job, split_of};
+use crate::run::run_job;
 use answer_lines::AnswerRoom;
 use chunk_cursor::CursorTable;
 use chunk_file::Index;
@@ -17,6 +17,7 @@ use engine_gate::OpenGate;
 use epoch_seats::new_seat_is_between_epochs;
 use graph_model::{Job, Program};
 use mem_devices::{MemDisk, MemMeter, MemSink, SureSource};
+use partitioner::Split;
 use ports::Beat;
 use round_loop::Start;
 use std::alloc::Global;
@@ -130,7 +131,7 @@ fn answer_to<R: Threads + Sync + Abort>(
     let mut meters = meters(rt, alloc, job.engines + 1);
     let (table, mut seat) = CursorTable::new(alloc).expect(rt, "a table");
     new_seat_is_between_epochs();
-    let mut room = AnswerRoom::new(alloc, &split_of(&job)).expect(rt, "room");
+    let mut room = AnswerRoom::new(alloc, &Split::of_job(&job)).expect(rt, "room");
     let mut out = MemSink::new(alloc, 3, &[]).expect(rt, "a sink");
     let finish = run_job(
         rt,

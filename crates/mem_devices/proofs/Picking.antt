@@ -10,12 +10,12 @@ use Rattle.mem_devices.specs.declared.call.Work.TheVariants.{Write, Cut, Sync}
 use Rattle.mem_devices.specs.declared.image.Pick.{Pick}
 use Rattle.mem_devices.specs.declared.image.Pick.TheVariants.{Nothing, Written, Filled}
 use Rattle.mem_devices.specs.Bytes.{overlay}
-use Rattle.mem_devices.specs.Call.{InPart, covers, is_sync, after_call, after_work}
+use Rattle.mem_devices.specs.Call.{InPart, covers, is_sync, after_call}
 use Rattle.mem_devices.specs.History.{beats, after_calls, covered_calls, uncovered_calls, TakesEach, IsImage, MayLeave}
 use Rattle.mem_devices.specs.Images.{filled, taken, taken_each, picked_image}
 use Rattle.mem_devices.specs.Lawful.{in_part_same, in_part_whole, covered-append, length-beats}
 use Rattle.mem_devices.specs.Overlays.{torn_overlay}
-use Rattle.mem_devices.proofs.Recording.{covered-push, covered-push_other, uncovered-push_other, after_calls-push, is_image-push}
+use Rattle.mem_devices.proofs.Recording.{covered-push, covered-push_other, after_calls-push, is_image-push}
 
 taken_each-append : (pick : Pick) (xs ys : List Call) (bytes : List ℕ) → taken_each pick (xs ++ ys) bytes ≡ taken_each pick ys (taken_each pick xs bytes)
 taken_each-append pick [] ys bytes = refl

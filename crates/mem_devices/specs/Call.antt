@@ -1,5 +1,5 @@
 -- What a call of a disk in memory does.
-use Rattle.std.specs.Prelude.{ℕ, ◌+◌, List, length, take, Bool, true, false, if◌then◌else◌}
+use Rattle.std.specs.Prelude.{ℕ, List, length, take, Bool, true, false, if◌then◌else◌}
 use Rattle.ports.specs.Bytes.{Torn, CutShort, Same}
 use Rattle.mem_devices.specs.Bytes.{overlay}
 use Rattle.mem_devices.specs.declared.call.Call.{Call}

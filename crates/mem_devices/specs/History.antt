@@ -1,5 +1,5 @@
 -- What a disk in memory keeps, the bytes at first and every call since, and what a stop may leave of it.
-use Rattle.std.specs.Prelude.{◌≡◌, ◌⊎◌, ℕ, ◌≤◌, List, [], ◌∷◌, ◌++◌, Result, OnOk, OnErr, length, take, drop, map, Some, Bool, true, false, if◌then◌else◌, All}
+use Rattle.std.specs.Prelude.{◌≡◌, ◌⊎◌, ℕ, ◌≤◌, List, [], ◌∷◌, ◌++◌, Result, OnOk, OnErr, length, take, drop, map, Some, true, false, if◌then◌else◌, All}
 use Rattle.std.specs.List.{list_any}
 use Rattle.ports.specs.Disk.{DiskState}
 use Rattle.mem_devices.specs.declared.call.Call.{Call}

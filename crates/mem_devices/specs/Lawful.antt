@@ -1,11 +1,10 @@
 -- A disk in memory is a disk, whatever calls it has recorded.
-use Rattle.std.proofs.Common.{◌≡◌, ℕ, ◌+◌, ◌<◌, ◌≤◌, ◌⊎◌, inl, inr, List, [], ◌∷◌, ◌++◌, length, take, drop, get_or, true, false, if◌then◌else◌, All, arith, refl, sym, subst, ◌∙◌, ap}
+use Rattle.std.proofs.Common.{◌≡◌, ℕ, ◌+◌, ◌<◌, ◌≤◌, inl, inr, List, [], ◌∷◌, ◌++◌, length, take, drop, get_or, true, false, if◌then◌else◌, All, arith, refl, sym, subst, ◌∙◌, ap}
 use Rattle.std.specs.List.{list_any}
 use Rattle.std.proofs.lemmas.Bool.{cases_lt}
 use Rattle.std.proofs.lemmas.List.{take_all, drop_all, length-map, length-drop, get_or-drop}
 use Rattle.std.proofs.lemmas.List.Elements.{All-same, All-weaker, All-nil}
-use Rattle.ports.specs.Bytes.{Same}
-use Rattle.ports.specs.Disk.{DiskState, IsDisk}
+use Rattle.ports.specs.Disk.{IsDisk}
 use Rattle.ports.proofs.Parts.{torn_same, cut_same, cut_take}
 use Rattle.mem_devices.specs.declared.call.Call.{Call}
 use Rattle.mem_devices.specs.declared.call.Work.{Work}

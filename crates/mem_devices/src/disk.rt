@@ -1,5 +1,5 @@
 // Disks in memory.
-ghost use Rattle.std.specs.Prelude.{◌≡◌, ℕ, ◌+◌, ◌-◌, ◌^◌, ◌<◌, ◌≤◌, [], length, slice_index, All, IfOk, IfSome, IsTrue, IsErr, OnOk, is_ok, not, false};
+ghost use Rattle.std.specs.Prelude.{◌≡◌, ◌+◌, ◌-◌, ◌^◌, ◌<◌, ◌≤◌, [], length, slice_index, All, IfOk, IfSome, IsTrue, IsErr, OnOk, is_ok, not, false};
 ghost use Rattle.ports.specs.Bytes.{bytes_at};
 ghost use Rattle.ports.specs.Disk.{Writes, Cuts, Syncs};
 ghost use Rattle.ports.specs.Faults.{HasCause};

@@ -6,8 +6,8 @@ use Rattle.graph_model.specs.Partitions.{IsPartCount, MAX_PARTS, ceil_div, part_
 use Rattle.graph_model.proofs.SplitLemmas.{part_count_is, ceil_div-div_ceil}
 use Rattle.partitioner.specs.declared.split.Split.{Split}
 use Rattle.graph_model.specs.declared.job.Job.{Job}
-use Rattle.graph_model.specs.Jobs.{IsWellFormedJob, most_vertices}
-use Rattle.partitioner.specs.Splits.{IsSplit, IsSplitBy, IsSplitOf}
+use Rattle.graph_model.specs.Jobs.{IsWellFormedJob, most_vertices, parts_of}
+use Rattle.partitioner.specs.Splits.{IsSplit, IsSplitBy, IsSplitOf, split_for}
 
 pub one-le-product : (a b : ℕ) → 1 ≤ a → 1 ≤ b → 1 ≤ a * b
 one-le-product a b left right = let more : a * 1 ≤ a * b = mul-le-mul_left a right in omega arith
@@ -97,3 +97,16 @@ made-of_job job split well by =
       parts = parts;
       span = subst (λ k. split.span ≡ ceil_div job.vertices k) parts by.span;
     }
+
+-- a job has one split
+pub split_is : (job : Job) (split : Split) → IsSplitOf job split → split ≡ split_for job
+split_is job split of_job =
+    let with_vertices : ℕ → Split = λ v. record { vertices = v; engines = split.engines; parts = split.parts; span = split.span } in
+    let with_engines : ℕ → Split = λ v. record { vertices = job.vertices; engines = v; parts = split.parts; span = split.span } in
+    let with_parts : ℕ → Split = λ v. record { vertices = job.vertices; engines = job.engines; parts = v; span = split.span } in
+    let with_span : ℕ → Split = λ v. record { vertices = job.vertices; engines = job.engines; parts = parts_of job; span = v } in
+    ap with_vertices of_job.vertices ∙ ap with_engines of_job.engines ∙ ap with_parts of_job.parts ∙ ap with_span of_job.span
+
+-- and it is of that job
+pub is_split_for : (job : Job) → IsSplitOf job (split_for job)
+is_split_for job = record { vertices = refl; engines = refl; parts = refl; span = refl }

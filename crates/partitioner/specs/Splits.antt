@@ -34,6 +34,10 @@ pub record IsSplitOf (job : Job) (split : Split) : Type 0 where
   pub parts : split.parts ≡ parts_of job
   pub span : split.span ≡ span_of job
 
+-- that split itself
+abbrev pub split_for : Job → Split
+split_for job = record { vertices = job.vertices; engines = job.engines; parts = parts_of job; span = span_of job }
+
 -- the number of vertices of the partitions below this one that have this engine as their master
 abbrev pub own_below : (vertices engines parts partition engine : ℕ) → ℕ
 own_below vertices engines parts partition engine = sum_by (part_len vertices parts) (parts_of_master engines partition engine)

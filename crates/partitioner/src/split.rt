@@ -1,8 +1,11 @@
 //! The split of the vertices into partitions.
 ghost use Rattle.std.specs.Prelude.{◌≡◌, ◌+◌, ◌<◌, ◌≤◌, IfSome, IfNone};
 ghost use Rattle.std.specs.Int.{IsInRange};
+ghost use Rattle.graph_model.specs.Jobs.{IsWellFormedJob};
 ghost use Rattle.graph_model.specs.Partitions.{first_vertex, master_of, own_before, own_count, partition_of};
-ghost use Rattle.partitioner.specs.Splits.{IsSplit, IsSplitBy, NeedsTooMany, own_below};
+ghost use Rattle.partitioner.specs.Splits.{IsSplit, IsSplitBy, IsSplitOf, NeedsTooMany, own_below, split_for};
+
+use graph_model::Job;
 
 /// How the vertices of a job are split into partitions.
 #[derive(Clone, Copy, PartialEq, Eq, Debug)]
@@ -44,6 +47,19 @@ impl Split {
             parts,
             span: vertices.div_ceil(parts),
         })
+    }
+
+    /// The split of a job.
+    pub fn of_job(job: &Job) -> Split
+        requires { IsWellFormedJob job.now }
+        ensures split { IsSplit result }
+        ensures of_job { IsSplitOf job.now result }
+        ensures same { result ≡ split_for job.now }
+    {
+        match Split::of(job.vertices, job.engines, job.most) {
+            Some(split) => split,
+            None => unreachable!(),
+        }
     }
 
     /// The partition of a vertex.

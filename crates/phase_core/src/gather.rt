@@ -1,5 +1,5 @@
 //! Folding updates into sums.
-ghost use Rattle.std.specs.Prelude.{◌≡◌, ℕ, ◌+◌, ◌-◌, ◌<◌, ◌≤◌, All, length, fold, slice_index, nat_lt, if◌then◌else◌};
+ghost use Rattle.std.specs.Prelude.{◌≡◌, ℕ, ◌+◌, ◌-◌, ◌<◌, All, length, fold, slice_index, nat_lt, if◌then◌else◌};
 ghost use Rattle.graph_model.specs.declared.value.Update.{Update};
 ghost use Rattle.phase_model.specs.Sums.{values_to};
 

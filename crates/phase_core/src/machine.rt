@@ -1,5 +1,5 @@
 //! The machine before the first event.
-ghost use Rattle.std.specs.Prelude.{◌≡◌, ◌<◌, [], All, IfOk, OnOk, OnErr};
+ghost use Rattle.std.specs.Prelude.{◌≡◌, ◌<◌, [], IfOk, OnOk, OnErr};
 ghost use Rattle.graph_model.specs.declared.value.Update.{Update};
 ghost use Rattle.partitioner.specs.Splits.{IsSplit};
 ghost use Rattle.phase_core.specs.Machine.{fresh, with_chunk};

@@ -1,5 +1,5 @@
 //! Events, and what comes of them.
-ghost use Rattle.std.specs.Prelude.{◌≡◌, ◌<◌, ◌≤◌, ◌*◌, ◌+◌, ◌&&◌, not, true, IsTrue, IfOk, OnOk, OnErr, length, nat_lt, nat_le};
+ghost use Rattle.std.specs.Prelude.{◌≡◌, ◌<◌, ◌*◌, ◌+◌, ◌&&◌, not, true, IfOk, OnOk, OnErr, length};
 ghost use Rattle.graph_model.specs.Programs.{Rules};
 ghost use Rattle.graph_model.specs.Partitions.{first_vertex, part_len};
 ghost use Rattle.phase_model.specs.Sums.{sums_over};

@@ -1,5 +1,4 @@
 ghost use Rattle.std.specs.Prelude.{IfOk, OnOk};
-ghost use Rattle.partitioner.specs.Splits.{IsSplit};
 ghost use Rattle.phase_core.specs.View.{IsUnused, machine_of};
 
 use super::*;

@@ -1,9 +1,9 @@
 // Calls of disks in a row, with what a stop at any moment of them leaves.
-ghost use Rattle.std.specs.Prelude.{◌≡◌, ℕ, ◌+◌, ◌^◌, ◌<◌, ◌≤◌, List, max, length, map, take, OnOk, OnErr, slice_index_or};
-ghost use Rattle.ports.specs.Bytes.{after_write, Torn, CutShort, Same};
+ghost use Rattle.std.specs.Prelude.{◌≡◌, ◌+◌, ◌^◌, ◌<◌, ◌≤◌, max, length, take, OnOk};
+ghost use Rattle.ports.specs.Bytes.{after_write, Torn, CutShort};
 ghost use Rattle.ports.specs.Disk.{IsSettled, After};
 ghost use Rattle.ports.specs.Faults.{HasCause};
-ghost use Rattle.ports.specs.Stops.{Leaves, IsStop, AreImages};
+ghost use Rattle.ports.specs.Stops.{Leaves};
 ghost use Rattle.ports.specs.Told.{AsTold};
 
 use crate::{Beat, Disk, Failed};

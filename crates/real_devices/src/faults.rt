@@ -1,6 +1,6 @@
 // How a call that failed is counted.
-ghost use Rattle.std.specs.Prelude.{◌≡◌, min, ◌+◌, ◌-◌, ◌^◌, ◌↔◌, IsOk};
-ghost use Rattle.ports.specs.Faults.{HasCause, next_count};
+ghost use Rattle.std.specs.Prelude.{◌-◌, ◌↔◌, IsOk};
+ghost use Rattle.ports.specs.Faults.{HasCause};
 
 use ports::Failed;
 use std::io;

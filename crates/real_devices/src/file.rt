@@ -1,5 +1,5 @@
 // Files as disks.
-ghost use Rattle.std.specs.Prelude.{◌≡◌, ◌+◌, ◌^◌, ◌<◌, ◌≤◌, Some, IfSome, IfOk, OnOk, length};
+ghost use Rattle.std.specs.Prelude.{◌≡◌, ◌+◌, ◌<◌, ◌≤◌, Some, IfSome, IfOk, OnOk, length};
 ghost use Rattle.ports.specs.Faults.{HasCause};
 
 use crate::faults::counted;

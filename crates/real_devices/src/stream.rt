@@ -1,6 +1,5 @@
 // A source and a sink over any reader and any writer.
-ghost use Rattle.std.specs.Prelude.{◌≡◌, None, min, ◌+◌, ◌-◌, ◌^◌};
-ghost use Rattle.ports.specs.Faults.{HasCause, next_count};
+ghost use Rattle.std.specs.Prelude.{◌≡◌, None, ◌+◌, ◌-◌};
 
 use ports::{Failed, Sink, Source};
 use std::io::{Read, Write};

@@ -1,6 +1,5 @@
 // The merge over all workers.
-ghost use Rattle.std.specs.Prelude.{◌≡◌, ℕ, ◌+◌, ◌*◌, ◌^◌, ◌<◌, ◌≤◌, List, All, map, length, replicate, OnOk, slice_index, slice_index_or};
-ghost use Rattle.partitioner.specs.Splits.{IsSplit};
+ghost use Rattle.std.specs.Prelude.{◌≡◌, ℕ, ◌+◌, ◌*◌, ◌<◌, ◌≤◌, List, All, map, length, replicate, OnOk, slice_index_or};
 ghost use Rattle.ports.specs.Bytes.{bytes_at};
 ghost use Rattle.ports.specs.Faults.{HasCause};
 ghost use Rattle.replica_merge.specs.declared.replicas.Replicas.{Replicas};

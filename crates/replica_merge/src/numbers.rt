@@ -1,8 +1,8 @@
 // Numbers as bytes: eight each, high byte first.
-ghost use Rattle.std.specs.Prelude.{◌≡◌, ◌+◌, ◌*◌, ◌≤◌, ◌<◌, length};
+ghost use Rattle.std.specs.Prelude.{◌≡◌, ◌+◌, ◌*◌, ◌≤◌, length};
 ghost use Rattle.std.specs.Int.{to_be_bytes, from_be_bytes, w64};
 ghost use Rattle.ports.specs.Bytes.{bytes_at, after_write};
-ghost use Rattle.replica_merge.specs.Numbers.{bytes_of_numbers, numbers_at};
+ghost use Rattle.replica_merge.specs.Numbers.{bytes_of_numbers};
 
 /// The bytes of a number.
 pub(crate) const WIDTH: usize = 8;

@@ -30,7 +30,7 @@ pub struct Replicas {
 
 impl Replicas {
     ghost use Rattle.replica_merge.specs.Accumulators.{split_of, unit_of, begun_of, sums_of, len_of, place_of, IsUnspilled};
-    ghost use Rattle.replica_merge.specs.Lending.{LendsSums, with_sums};
+    ghost use Rattle.replica_merge.specs.Lending.{LendsSums};
 
     /// Replicas of this split, in which every accumulator is `unit`.
     pub fn new(alloc: Global, split: &Split, unit: u64) -> Result<Replicas, Memory>

@@ -1,4 +1,4 @@
-ghost use Rattle.std.specs.Prelude.{◌≡◌, ℕ, ◌<◌, ◌≤◌, All, length, slice_index_or};
+ghost use Rattle.std.specs.Prelude.{◌≡◌, ◌<◌};
 ghost use Rattle.mem_devices.specs.MemDisk.{disk_state};
 ghost use Rattle.partitioner.specs.Splits.{IsSplit};
 ghost use Rattle.replica_merge.specs.Accumulators.{split_of, begun_of, IsUnspilled, LiesWithin};

@@ -6,10 +6,9 @@ use Rattle.std.proofs.lemmas.List.Elements.{All-weaker}
 use Rattle.graph_model.specs.declared.edge.Edge.{Edge}
 use Rattle.graph_model.specs.declared.edge.TheConstants.{MAX_WEIGHT}
 use Rattle.graph_model.specs.declared.job.Job.{Job}
-use Rattle.graph_model.specs.Jobs.{IsWellFormedJob, parts_of, span_of}
-use Rattle.partitioner.specs.declared.split.Split.{Split}
-use Rattle.partitioner.specs.Splits.{IsSplitOf}
-use Rattle.partitioner.proofs.Made.{one-le-product}
+use Rattle.graph_model.specs.Jobs.{IsWellFormedJob, parts_of}
+use Rattle.partitioner.specs.Splits.{split_for}
+use Rattle.partitioner.proofs.Made.{one-le-product, is_split_for}
 use Rattle.partitioner.proofs.Ranges.{partition_of-below}
 use Rattle.chunk_model.specs.Chunks.{Chunk, IsChunkOf}
 use Rattle.chunk_model.specs.Layout.{edge_fits, holds_edge}
@@ -44,13 +43,6 @@ says_own job e well = record {
   keep = well.keep;
 }
 
-split_for : Job → Split
-split_for job = record { vertices = job.vertices; engines = job.engines; parts = parts_of job; span = span_of job }
-
-is_split_for : (job : Job) → IsSplitOf job (split_for job)
-unfolding split_for
-is_split_for job = record { vertices = refl; engines = refl; parts = refl; span = refl }
-
 -- An edge of the job can be written, and fits.
 weight_room : (job : Job) (edge : Edge) → IsEdgeOf job edge → (first : Bool) → (job.format == 1) ≡ first → edge.weight < (if first then 2 ^ 32 else 2 ^ 64)
 weight_room job edge is true one = is.room (eqb-true job.format 1 one)
@@ -71,7 +63,6 @@ some_parts job well = one-le-product job.engines _ well.engines.0 (omega arith)
 
 -- Each chunk of the job's edges is one.
 chunk_is : (job : Job) → IsWellFormedJob job → (c : Chunk Edge) → IsChunkOf job.chunk (home_of job) c → All (IsEdgeOf job) c.items → c.partition < parts_of job → IsEdgeChunk job.format (split_for job) job.chunk c
-unfolding split_for
 chunk_is job well c is edges below = record {
   partition = below;
   are = record {

@@ -14,12 +14,12 @@ use Rattle.chunk_model.proofs.OnDevice.{one_chunk}
 use Rattle.store_model.specs.declared.field.Field.TheVariants.{Format}
 use Rattle.store_model.specs.declared.field.TheConstants.{FIELDS}
 use Rattle.store_model.specs.Kept.{device, IsPrepared, IsUnprepared}
-use Rattle.store_model.specs.Damage.{Fault, GraphDamaged, value_of, parts_in, head_of, first_of, first_over, first_bad, is_good, at_graph, heads_fault, values_fault, IsEdgeChunk, NoEdgeChunk, BeginsWith, AreChunks, StopsAt, HasFault, IsSound, chunks_before, MOST_CHUNKS}
+use Rattle.store_model.specs.Damage.{Fault, GraphDamaged, value_of, parts_in, head_of, first_of, first_over, first_bad, is_good, at_graph, heads_fault, values_fault, IsEdgeChunk, BeginsWith, AreChunks, StopsAt, HasFault, IsSound, chunks_before, MOST_CHUNKS}
 use Rattle.store_checks.proofs.GoodHeads.{good_head}
 use Rattle.restart.specs.declared.recovering.Recovered.{Recovered}
 use Rattle.restart.specs.declared.recovering.Recovered.TheVariants.{Found, Fresh}
 use Rattle.restart.specs.Recovering.{IsRecovered}
-use Rattle.restart.proofs.PlacedChunks.{over, over_more, over_same, over_le}
+use Rattle.restart.proofs.PlacedChunks.{over_more, over_same, over_le}
 
 -- Two lists of chunks at one place: one of them goes on with the other.
 module _ {X : Type 0} (layout : Layout X) (laws : IsLayout layout) where

@@ -15,7 +15,7 @@ use Rattle.store_model.specs.Heads.{head, front, IsOpenGraph}
 use Rattle.store_model.specs.Graphs.{edge_chunks, chunks_on, graph_with, graph}
 use Rattle.store_model.specs.Kept.{own_of, IsPrepared, IsUnprepared, IsWholeStore, StoreOf}
 use Rattle.store_model.specs.Damage as damage
-use Rattle.store_model.specs.Damage.{Fault, first_over, value_of, is_good, is_same, first_bad, head_of, head_fault, other_fault, engines_fault, heads_fault, values_fault, at_graph, own_in, AreChunks, StopsAt, HasFault, IsSound}
+use Rattle.store_model.specs.Damage.{Fault, first_over, value_of, is_good, is_same, head_of, head_fault, other_fault, engines_fault, heads_fault, values_fault, at_graph, own_in, AreChunks, StopsAt, HasFault}
 use Rattle.store_model.proofs.Growing.{length-graph}
 use Rattle.store_checks.specs.declared.fault.RecoverFault.{RecoverFault}
 use Rattle.store_checks.specs.declared.fault.RecoverFault.TheVariants.{NotPrepared, EnginesDiffer, Damaged, DiskFault, Memory}

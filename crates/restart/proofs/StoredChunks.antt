@@ -13,7 +13,7 @@ use Rattle.chunk_model.specs.ChunkBytes.{IsWritable, chunk_bytes, bytes_of_chunk
 use Rattle.chunk_model.proofs.LayoutLaws.{edge_layout_is}
 use Rattle.chunk_model.proofs.ManyChunks.{same_chunks}
 use Rattle.chunk_model.proofs.OnDevice.{one_chunk, length-chunk_bytes}
-use Rattle.store_model.specs.declared.field.Field.TheVariants.{Format, Chunk as ChunkSize}
+use Rattle.store_model.specs.declared.field.Field.TheVariants.{Format}
 use Rattle.store_model.specs.Heads.{head}
 use Rattle.store_model.specs.Graphs.{edge_chunks, chunks_on, graph_with, graph}
 use Rattle.store_model.specs.Kept.{device}

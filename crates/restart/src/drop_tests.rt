@@ -1,5 +1,4 @@
 // A store is given up while each of its calls fails once, and every image of its devices is looked at.
-ghost use Rattle.std.specs.Prelude.{◌≡◌, length};
 
 use crate::drop_store;
 use crate::test_stores::{GRAPH_1, VALUES, changed, store_with};

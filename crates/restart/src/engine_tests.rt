@@ -1,5 +1,4 @@
 // What is recovered of stores of two engines without edges.
-ghost use Rattle.std.specs.Prelude.{◌≡◌, length};
 
 use crate::test_stores::Answer;
 use crate::{RecoverFault, Recovered, recover};

@@ -1,11 +1,9 @@
 //! What stands in a store that is opened again.
-ghost use Rattle.std.specs.Prelude.{◌≡◌, ◌⊎◌, ℕ, ◌<◌, ◌≤◌, List, length, slice_index_or, None, IfOk, IfErr, OnOk};
-ghost use Rattle.std.specs.List.{All};
+ghost use Rattle.std.specs.Prelude.{◌≡◌, ℕ, ◌<◌, ◌≤◌, List, length, slice_index_or, None, IfOk, IfErr, OnOk};
 ghost use Rattle.ports.specs.Faults.{Rose};
 ghost use Rattle.graph_model.specs.declared.edge.Edge.{Edge};
 ghost use Rattle.graph_model.specs.declared.job.Job.{Job};
 ghost use Rattle.graph_model.specs.Jobs.{IsWellFormedJob};
-ghost use Rattle.partitioner.specs.Splits.{IsSplit, IsSplitOf};
 ghost use Rattle.chunk_file.specs.declared.index.TheConstants.{MOST_PLACES};
 ghost use Rattle.chunk_file.specs.Places.{total_of};
 ghost use Rattle.store_model.specs.Slots.{device_size};
@@ -76,7 +74,7 @@ pub fn recover<D: Disk>(
         Ok(job) => job,
         Err(fault) => return Err(fault),
     };
-    let split = split_of(&job);
+    let split = Split::of_job(&job);
     let index = match index_graphs(alloc, &store.graphs, meter, &split, &job) {
         Ok(index) => index,
         Err(fault) => return Err(fault),
@@ -113,17 +111,5 @@ fn open_job<D: Disk>(store: &Store<D>, meter: &mut D::M) -> Result<Job, RecoverF
         Ok(true) => job_of_heads(&store.graphs, meter),
         Ok(false) => Err(RecoverFault::NotPrepared),
         Err(Failed) => Err(RecoverFault::DiskFault),
-    }
-}
-
-/// The split of a job.
-fn split_of(job: &Job) -> Split
-    requires { IsWellFormedJob job.now }
-    ensures split { IsSplit result }
-    ensures of_job { IsSplitOf job.now result }
-{
-    match Split::of(job.vertices, job.engines, job.most) {
-        Some(split) => split,
-        None => unreachable!(),
     }
 }

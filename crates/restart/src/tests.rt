@@ -1,5 +1,4 @@
 // A store of one engine in memory.
-ghost use Rattle.std.specs.Prelude.{IfOk, length, ◌≡◌};
 ghost use Rattle.mem_devices.specs.MemDisk.{IsNewDisk};
 
 use super::*;

@@ -6,10 +6,9 @@ use Rattle.std.proofs.lemmas.List.Elements.{All-append}
 use Rattle.graph_model.specs.declared.edge.Edge.{Edge}
 use Rattle.graph_model.specs.declared.job.Job.{Job}
 use Rattle.graph_model.specs.Programs.{Rules}
-use Rattle.graph_model.specs.Jobs.{parts_of}
 use Rattle.ports.specs.Disk.{DiskState, IsDisk}
 use Rattle.partitioner.specs.declared.split.Split.{Split}
-use Rattle.partitioner.specs.Splits.{IsSplitOf}
+use Rattle.partitioner.specs.Splits.{split_for}
 use Rattle.chunk_object.specs.Epochs.{Epoch}
 use Rattle.chunk_file.specs.declared.index.Place.{Place}
 use Rattle.store_model.specs.Kept.{own_of}
@@ -25,7 +24,7 @@ use Rattle.round_steps.specs.Rounds.{StoresRound, MakesEpochs, earlier_values}
 use Rattle.epoch_laws.specs.Phases.{Opens, updates_of, sending_in}
 use Rattle.round_loop.specs.declared.run.Start.{Start}
 use Rattle.round_loop.specs.declared.run.Start.TheVariants.{Fresh, At}
-use Rattle.round_loop.specs.Starts.{split_for, first_made, first_sent, counts_first, IsDue}
+use Rattle.round_loop.specs.Starts.{first_made, first_sent, counts_first, IsDue}
 use Rattle.round_loop.specs.Opening.{OpensEdges, OpensUpdates, AreEpochsOf, sends_changed}
 use Rattle.round_loop.specs.Kept.{share, Gives, Stands}
 use Rattle.round_loop.specs.Keeping.{IsTold, Moment}
@@ -35,15 +34,6 @@ use Rattle.round_loop.proofs.Reaching.{next_is_due, reached_of_due}
 use Rattle.round_loop.proofs.Stopping.{other_slot, made_stands, before_still, one_more, more_since}
 use Rattle.round_loop.proofs.Keeping.{kept_then, kept_by_step, told_still, meters_then}
 use Rattle.round_loop.proofs.Epochs.{through_then, fronts_then, are_then, of_round}
-
--- the split of a job is this one
-pub split_is : (job : Job) (split : Split) → IsSplitOf job split → split ≡ split_for job
-split_is job split of_job =
-    let with_vertices : ℕ → Split = λ v. record { vertices = v; engines = split.engines; parts = split.parts; span = split.span } in
-    let with_engines : ℕ → Split = λ v. record { vertices = job.vertices; engines = v; parts = split.parts; span = split.span } in
-    let with_parts : ℕ → Split = λ v. record { vertices = job.vertices; engines = job.engines; parts = v; span = split.span } in
-    let with_span : ℕ → Split = λ v. record { vertices = job.vertices; engines = job.engines; parts = parts_of job; span = v } in
-    ap with_vertices of_job.vertices ∙ ap with_engines of_job.engines ∙ ap with_parts of_job.parts ∙ ap with_span of_job.span
 
 pub made_before_sent : (start : Start) → first_made start ≤ first_sent start
 made_before_sent Fresh = omega arith

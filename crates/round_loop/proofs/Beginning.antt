@@ -18,7 +18,8 @@ use Rattle.round_steps.specs.Going.{IsStore, KeepsStore, MetersGoOn, SomeRose}
 use Rattle.round_steps.specs.Standing.{IsSound, HaveEdges, HasEdges, StandsBefore, IsBefore}
 use Rattle.round_steps.specs.Rounds.{StoresRound, MakesFirst}
 use Rattle.round_loop.specs.declared.run.Start.TheVariants.{Fresh, At}
-use Rattle.round_loop.specs.Starts.{split_for, IsDue}
+use Rattle.partitioner.specs.Splits.{split_for}
+use Rattle.round_loop.specs.Starts.{IsDue}
 use Rattle.round_loop.specs.Opening.{OpensEdges}
 use Rattle.round_loop.specs.Keeping.{IsTold, Moment}
 use Rattle.round_loop.specs.Coming.{ComesWell, HasCome}

@@ -19,7 +19,8 @@ use Rattle.round_loop.specs.declared.run.Start.TheVariants.{Fresh}
 use Rattle.round_loop.specs.declared.course.Progress.{Progress}
 use Rattle.round_loop.specs.declared.fault.RoundFault.{RoundFault}
 use Rattle.round_loop.specs.Answers.{IsFaultOf}
-use Rattle.round_loop.specs.Starts.{split_for, first_sent, counts_first}
+use Rattle.partitioner.specs.Splits.{split_for}
+use Rattle.round_loop.specs.Starts.{first_sent, counts_first}
 use Rattle.round_loop.specs.Opening.{sends_changed}
 use Rattle.round_loop.specs.Keeping.{Moment}
 use Rattle.round_loop.specs.Conditions.{MOST_ROUNDS}

@@ -14,7 +14,8 @@ use Rattle.round_steps.specs.Going.{IsStore, MetersGoOn, IsOpenEverywhere}
 use Rattle.round_steps.specs.Standing.{HasEdges}
 use Rattle.round_loop.specs.declared.run.Start.{Start}
 use Rattle.round_loop.specs.declared.course.Progress.{Progress}
-use Rattle.round_loop.specs.Starts.{split_for, first_made, first_sent, counts_first, epochs_to, IsDue}
+use Rattle.partitioner.specs.Splits.{split_for}
+use Rattle.round_loop.specs.Starts.{first_made, first_sent, counts_first, epochs_to, IsDue}
 use Rattle.round_loop.specs.Opening.{AreEpochsOf}
 use Rattle.round_loop.specs.Kept.{changed_in, Left, LeftSince, StandsAfter, IsGoodStart}
 use Rattle.round_loop.specs.Keeping.{Keeps, IsTold, Moment}

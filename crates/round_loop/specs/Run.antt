@@ -19,7 +19,8 @@ use Rattle.round_loop.specs.declared.run.Start.{Start}
 use Rattle.round_loop.specs.declared.run.Done.{Done}
 use Rattle.round_loop.specs.declared.fault.RoundFault.{RoundFault}
 use Rattle.round_loop.specs.declared.fault.RoundFault.TheVariants.{RoundLimit, DiskFault, Damaged}
-use Rattle.round_loop.specs.Starts.{split_for, first_made, first_sent, counts_first, epochs_to, IsLastBegun}
+use Rattle.partitioner.specs.Splits.{split_for}
+use Rattle.round_loop.specs.Starts.{first_made, first_sent, counts_first, epochs_to, IsLastBegun}
 use Rattle.round_loop.specs.Opening.{AreEpochsOf}
 use Rattle.round_loop.specs.Kept.{Left, LeftSince, StandsAfter, IsGoodStart}
 use Rattle.round_loop.specs.Keeping.{Keeps, IsTold, Moment}

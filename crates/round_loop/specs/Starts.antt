@@ -1,18 +1,11 @@
 -- Where a run begins, which rounds and epochs it has from there, and which rounds it may come to.
 use Rattle.std.specs.Prelude.{◌≡◌, ℕ, ◌+◌, ◌-◌, ◌*◌, ◌<◌, ◌≤◌, Bool, false, if◌then◌else◌, None, Some, List, length}
 use Rattle.graph_model.specs.declared.edge.Edge.{Edge}
-use Rattle.graph_model.specs.declared.job.Job.{Job}
 use Rattle.graph_model.specs.Programs.{Rules}
 use Rattle.graph_model.specs.Rounds.{Repeats, IsLastRound, IsUnsettled}
-use Rattle.graph_model.specs.Jobs.{parts_of, span_of}
-use Rattle.partitioner.specs.declared.split.Split.{Split}
 use Rattle.chunk_object.specs.Epochs.{Epoch}
 use Rattle.round_loop.specs.declared.run.Start.{Start}
 use Rattle.round_loop.specs.declared.run.Start.TheVariants.{Fresh, At}
-
--- the split of a job
-abbrev pub split_for : Job → Split
-split_for job = record { vertices = job.vertices; engines = job.engines; parts = parts_of job; span = span_of job }
 
 -- the first round that is made
 abbrev pub first_made : Start → ℕ

@@ -1,13 +1,12 @@
 //! A run, from its start to its end.
 ghost use Rattle.std.specs.Prelude.{◌≡◌, ℕ, ◌+◌, ◌^◌, ◌<◌, ◌≤◌, None, Some, length, vec_len, vec_capacity, ◌++◌, ◌∷◌, []};
 ghost use Rattle.graph_model.specs.Jobs.{IsWellFormedJob};
-ghost use Rattle.partitioner.specs.Splits.{IsSplit, IsSplitOf};
+ghost use Rattle.partitioner.specs.Splits.{split_for};
 ghost use Rattle.chunk_object.specs.History.{most_chunks};
 ghost use Rattle.store_reader.specs.Indexed.{lens_of};
 ghost use Rattle.epoch_seats.specs.Between.{IsBetweenEpochs};
 ghost use Rattle.round_steps.specs.Crews.{AreCrews};
 ghost use Rattle.round_steps.specs.Going.{IsStore};
-ghost use Rattle.round_loop.specs.Starts.{split_for};
 ghost use Rattle.round_loop.specs.Keeping.{Moment, moment};
 ghost use Rattle.round_loop.specs.Conditions.{IsRun, MOST_ROUNDS};
 ghost use Rattle.round_loop.specs.Coming.{IsAt};
@@ -80,7 +79,7 @@ pub fn run_rounds<R: Threads + Sync, P: VertexProgram, D: Disk, G: Gate + Sync>(
     ensures table { seat.new.table ≡ seat.old.table }
     ensures run { HasRun D.state D.M.faults (P.rules program.now) job.now start index.now (moment store.old meters.old.items seat.old.view beat.old) (moment store.new meters.new.items seat.new.view beat.new) result }
 {
-    let split = split_of(job);
+    let split = Split::of_job(job);
     let mut crews = match Crews::new(alloc, job, &split) {
         Ok(crews) => crews,
         Err(_) => return Err(RoundFault::Memory),
@@ -175,18 +174,6 @@ fn run_on<R: Threads + Sync, P: VertexProgram, D: Disk, G: Gate + Sync>(
         claims: so_far.claims,
         admitted: so_far.admitted,
     })
-}
-
-/// The split of a job.
-fn split_of(job: &Job) -> Split
-    requires { IsWellFormedJob job.now }
-    ensures split { IsSplit result }
-    ensures of_job { IsSplitOf job.now result }
-{
-    match Split::of(job.vertices, job.engines, job.most) {
-        Some(split) => split,
-        None => unreachable!(),
-    }
 }
 
 /// Takes the last item out of a list that has one. The list keeps its room.

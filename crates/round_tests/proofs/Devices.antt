@@ -4,11 +4,10 @@ use Rattle.graph_model.specs.declared.job.Job.{Job}
 use Rattle.graph_model.specs.Jobs.{parts_of}
 use Rattle.ports.specs.Disk.{DiskState}
 use Rattle.partitioner.specs.declared.split.Split.{Split}
-use Rattle.partitioner.specs.Splits.{IsSplitOf}
+use Rattle.partitioner.specs.Splits.{IsSplitOf, split_for}
 use Rattle.store_model.specs.Slots.{device_size}
 use Rattle.store_reader.specs.Reading.{own_in}
 use Rattle.scatter_phase.specs.Rooms.{AreValueDevices}
-use Rattle.round_loop.specs.Starts.{split_for}
 
 split_is : (job : Job) (split : Split) → IsSplitOf job split → split ≡ split_for job
 split_is job split of_job =

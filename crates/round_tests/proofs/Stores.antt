@@ -10,7 +10,7 @@ use Rattle.store_model.specs.Slots.{device_size}
 use Rattle.store_model.specs.Kept.{own_of}
 use Rattle.store_reader.specs.declared.store.Store.{Store}
 use Rattle.round_steps.specs.Going.{AreDevices, AreRows, IsStore}
-use Rattle.round_loop.specs.Starts.{split_for}
+use Rattle.partitioner.specs.Splits.{split_for}
 
 pub store_is : {M : Type 0} (job : Job) (number : ℕ) (store : Store MemDisk M) (lanes : Vec (Vec MemDisk Global) Global) (spills : Vec MemDisk Global) → store.lanes ≡ lanes → store.spills ≡ spills
     → vec_len store.graphs ≡ job.engines → length store.values.items ≡ job.engines → All (λ (d : MemDisk). (disk_state d).beat ≤ number) store.values.items

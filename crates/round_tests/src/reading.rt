@@ -1,7 +1,6 @@
 //! What stands on the values devices of a store.
 ghost use Rattle.std.specs.Prelude.{◌<◌};
-ghost use Rattle.graph_model.specs.Jobs.{IsWellFormedJob};
-ghost use Rattle.partitioner.specs.Splits.{IsSplit, IsSplitOf};
+ghost use Rattle.partitioner.specs.Splits.{IsSplit};
 
 use gather_laws::Value;
 use graph_model::Job;
@@ -12,17 +11,6 @@ use round_loop::Start;
 use std::alloc::Global;
 use std::process::Abort;
 use store_reader::{SlotHead, read_set, slot_head};
-
-pub(crate) fn split_of(rt: &impl Abort, job: &Job) -> Split
-    requires { IsWellFormedJob job.now }
-    ensures split { IsSplit result }
-    ensures of_job { IsSplitOf job.now result }
-{
-    match Split::of(job.vertices, job.engines, job.most) {
-        Some(split) => split,
-        None => panic!(rt; "a job has a split"),
-    }
-}
 
 /// Adds the values of a partition in a slot to those of the lower ones.
 fn read_partition(

@@ -5,18 +5,19 @@ ghost use Rattle.mem_devices.specs.MemDisk.{disk_state};
 ghost use Rattle.chunk_object.specs.History.{most_chunks};
 ghost use Rattle.store_reader.specs.Indexed.{lens_of};
 ghost use Rattle.round_steps.specs.Going.{IsStore};
-ghost use Rattle.round_loop.specs.Starts.{split_for};
+ghost use Rattle.partitioner.specs.Splits.{split_for};
 ghost use Rattle.round_loop.specs.Conditions.{MOST_ROUNDS};
 
 use crate::faults::Fault;
 use crate::graphs::plain_values;
 use crate::made::{Made, meters};
-use crate::reading::{changed_in, kept, read_values, split_of};
+use crate::reading::{changed_in, kept, read_values};
 use chunk_cursor::CursorTable;
 use engine_gate::OpenGate;
 use epoch_seats::new_seat_is_between_epochs;
 use gather_laws::VertexProgram;
 use graph_model::{Edge, Job};
+use partitioner::Split;
 use ports::Gate;
 use round_loop::{Done, RoundFault, Start, run_rounds};
 use std::alloc::Global;
@@ -80,7 +81,7 @@ pub(crate) fn expect_plain<P: VertexProgram>(
 )
     requires { IsWellFormedJob job.now }
 {
-    let split = split_of(rt, job);
+    let split = Split::of_job(job);
     let devices = made.store.values.as_slice();
     let Some(wanted) = plain_values(rt, alloc, program, edges, job.limit) else {
         assert_eq!(rt; answer, Err(RoundFault::RoundLimit), "{job:?}");
@@ -111,7 +112,7 @@ pub(crate) fn go_on<R: Threads + Abort + Sync, P: VertexProgram>(
     requires store { IsStore disk_state (split_for job.now) made.old.beat made.old.store }
     requires few { (cursor : ℕ) → lens_of made.old.index cursor ≤ most_chunks }
 {
-    let split = split_of(rt, job);
+    let split = Split::of_job(job);
     let start = kept(rt, alloc, &split, made.store.values.as_slice(), job.limit);
     let answer = run(
         rt,

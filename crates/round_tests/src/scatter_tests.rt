@@ -6,20 +6,21 @@ ghost use Rattle.chunk_object.specs.History.{most_chunks};
 ghost use Rattle.scatter_phase.specs.Rooms.{AreSlots};
 ghost use Rattle.store_reader.specs.Indexed.{lens_of};
 ghost use Rattle.round_steps.specs.Going.{IsStore};
-ghost use Rattle.round_loop.specs.Starts.{split_for};
+ghost use Rattle.partitioner.specs.Splits.{split_for};
 ghost use Rattle.round_loop.specs.Conditions.{MOST_ROUNDS};
 
 use crate::faults::{Called, Fault};
 use crate::graphs::{FAR, edges_of, text_of};
 use crate::jobs::{ON_TWO, job_of};
 use crate::made::{Made, make, rows};
-use crate::reading::{read_values, split_of};
+use crate::reading::read_values;
 use crate::runs::run;
 use crate::scatters::{scatter, sent_by, sent_on};
 use chunk_file::Index;
 use engine_gate::OpenGate;
 use gather_laws::VertexProgram;
 use graph_model::{Edge, Job, Program};
+use partitioner::Split;
 use round_loop::Start;
 use std::alloc::Global;
 use std::process::Abort;
@@ -78,7 +79,7 @@ fn expect_sent<R: Threads + Abort + Sync, P: VertexProgram>(
     requires slots { AreSlots slots.0 slots.1 }
 {
     let (slot, other) = slots;
-    let split = split_of(rt, job);
+    let split = Split::of_job(job);
     let mut lanes = rows(rt, alloc, job.engines, fault);
     let mut updates = Index::new(alloc).expect(rt, "an index");
     let outcome = scatter(

@@ -2,17 +2,15 @@
 ghost use Rattle.std.specs.Prelude.{◌≡◌, ℕ, ◌<◌, ◌≤◌, length, vec_len};
 ghost use Rattle.std.specs.List.{All};
 ghost use Rattle.graph_model.specs.Jobs.{IsWellFormedJob};
-ghost use Rattle.partitioner.specs.Splits.{IsSplit};
+ghost use Rattle.partitioner.specs.Splits.{IsSplit, split_for};
 ghost use Rattle.mem_devices.specs.MemDisk.{disk_state};
 ghost use Rattle.chunk_object.specs.History.{most_chunks};
 ghost use Rattle.scatter_phase.specs.Rooms.{AreSlots};
 ghost use Rattle.store_reader.specs.Indexed.{lens_of};
 ghost use Rattle.round_steps.specs.Going.{IsStore};
-ghost use Rattle.round_loop.specs.Starts.{split_for};
 
 use crate::faults::Fault;
 use crate::made::{Made, meters};
-use crate::reading::split_of;
 use chunk_cursor::CursorTable;
 use chunk_file::{Index, Place, read_chunk};
 use engine_gate::OpenGate;
@@ -48,7 +46,7 @@ pub(crate) fn scatter<'a, R: Threads + Abort + Sync, P: VertexProgram>(
     requires many { vec_len lanes.old ≡ job.now.engines }
     requires rows { All (λ row. (length row.items ≡ job.now.engines) × All (λ disk. (disk_state disk).beat ≤ 0) row.items) lanes.old.items }
 {
-    let split = split_of(rt, job);
+    let split = Split::of_job(job);
     let (table, mut seat) = CursorTable::new(alloc).expect(rt, "a table");
     new_seat_is_between_epochs();
     let mut crew = ScatterCrew::new(alloc, job, &split).expect(rt, "a crew");
@@ -173,7 +171,7 @@ pub(crate) fn sent_on(
 ) -> Vec<(u32, u64)>
     requires { IsWellFormedJob job.now }
 {
-    let split = split_of(rt, job);
+    let split = Split::of_job(job);
     let mut sent = Vec::new(alloc);
     for cursor in 0..8 * split.parts {
         let (engine, partition) = (cursor % 8, cursor / 8);

@@ -1,5 +1,5 @@
 //! The acts of a worker in a scatter phase.
-ghost use Rattle.std.specs.Prelude.{◌≡◌, ℕ, ◌+◌, ◌*◌, ◌<◌, ◌≤◌, length, take};
+ghost use Rattle.std.specs.Prelude.{◌≡◌, ◌*◌, ◌<◌, ◌≤◌, length};
 ghost use Rattle.ports.specs.Faults.{Rose};
 ghost use Rattle.chunk_object.specs.Epochs.{cursor_of};
 ghost use Rattle.chunk_object.specs.History.{opened_len};

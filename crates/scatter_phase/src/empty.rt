@@ -1,5 +1,5 @@
 //! Lanes that are emptied.
-ghost use Rattle.std.specs.Prelude.{◌≡◌, ℕ, ◌<◌, ◌≤◌, [], length, slice_index_or, OnOk, OnErr};
+ghost use Rattle.std.specs.Prelude.{ℕ, ◌<◌, [], length, slice_index_or, OnOk, OnErr};
 ghost use Rattle.update_lanes.specs.Lanes.{HasChunks, GoOn, OneRose};
 ghost use Rattle.scatter_phase.specs.Rooms.{AreLanes};
 

@@ -1,5 +1,5 @@
 //! The values of a partition, which are read once while its chunks are claimed.
-ghost use Rattle.std.specs.Prelude.{◌≡◌, ℕ, ◌+◌, ◌*◌, ◌<◌, ◌≤◌, Some, length, OnOk};
+ghost use Rattle.std.specs.Prelude.{◌≡◌, ◌*◌, ◌<◌, ◌≤◌, Some, length, OnOk};
 ghost use Rattle.graph_model.specs.declared.job.Job.{Job as JobOf};
 ghost use Rattle.ports.specs.Faults.{HasCause};
 ghost use Rattle.partitioner.specs.Splits.{IsSplit, IsSplitOf};

@@ -1,5 +1,5 @@
 //! The work of one worker in a scatter phase.
-ghost use Rattle.std.specs.Prelude.{◌≡◌, ◌≢◌, ℕ, ◌^◌, ◌≤◌, [], List, length, true, false, OnOk, OnErr};
+ghost use Rattle.std.specs.Prelude.{◌≡◌, ◌≢◌, ◌^◌, ◌≤◌, [], length, true, false, OnOk, OnErr};
 ghost use Rattle.seeded_place.specs.Placing.{update_stream};
 ghost use Rattle.phase_model.specs.JobTerms.{terms_of};
 ghost use Rattle.worker_duty.specs.Views.{taken_by_seat, MayWork, HasWorked};

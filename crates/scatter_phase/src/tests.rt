@@ -1,10 +1,10 @@
 // Shortest distances over three edges, which are one chunk on one engine.
-ghost use Rattle.std.specs.Prelude.{◌≡◌, ℕ, [], ◌<◌, ◌≤◌, length};
+ghost use Rattle.std.specs.Prelude.{◌≡◌, ℕ, [], ◌<◌, ◌≤◌};
 ghost use Rattle.mem_devices.specs.MemDisk.{disk_state};
 ghost use Rattle.graph_model.specs.Jobs.{IsWellFormedJob, parts_of};
 ghost use Rattle.partitioner.specs.Splits.{IsSplit, IsSplitOf};
 ghost use Rattle.chunk_object.specs.History.{most_chunks};
-ghost use Rattle.chunk_cursor.specs.View.{newcomer, IsFirst};
+ghost use Rattle.chunk_cursor.specs.View.{newcomer};
 ghost use Rattle.store_reader.specs.Indexed.{lens_of};
 ghost use Rattle.phase_model.specs.JobTerms.{terms_of};
 ghost use Rattle.worker_duty.specs.Views.{MayWork};
@@ -69,17 +69,6 @@ fn job_of_three() -> Job
         limit: 100_000,
         format: 1,
         keep: 1,
-    }
-}
-
-fn split_of(rt: &impl Abort, job: &Job) -> Split
-    requires { IsWellFormedJob job.now }
-    ensures split { IsSplit result }
-    ensures of_job { IsSplitOf job.now result }
-{
-    match Split::of(job.vertices, job.engines, job.most) {
-        Some(split) => split,
-        None => panic!(rt; "a job has a split"),
     }
 }
 
@@ -174,7 +163,7 @@ fn share_of_one(
     requires { AreSlots slot before }
 {
     let job = job_of_three();
-    let split = split_of(rt, &job);
+    let split = Split::of_job(&job);
     let index = index_of_one(rt, alloc);
     let (table, mut first) = CursorTable::new(alloc).expect(rt, "a table");
     let seat = seat_of_one(&table, &mut first, &job, &index);

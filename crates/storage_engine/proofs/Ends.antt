@@ -7,9 +7,6 @@ use Rattle.storage_engine.specs.declared.fault.PrepareFault.{PrepareFault}
 use Rattle.storage_engine.specs.declared.fault.PrepareFault.TheVariants.{DiskFault}
 use Rattle.graph_model.specs.declared.edge.Edge.{Edge}
 use Rattle.graph_model.specs.declared.job.Job.{Job}
-use Rattle.graph_model.specs.Jobs.{IsWellFormedJob, parts_of}
-use Rattle.graph_model.proofs.SplitLemmas.{part_count_is}
-use Rattle.partitioner.specs.Splits.{NeedsTooMany}
 use Rattle.chunk_file.specs.declared.index.Place.{Place}
 use Rattle.ports.specs.Disk.{DiskState, IsDisk, InEveryImage}
 use Rattle.ports.specs.Stops.{LeavesByBeat}
@@ -22,11 +19,6 @@ use Rattle.storage_engine.specs.Steps.{Anything, Step, Each, EachOne, OneRose, I
 use Rattle.storage_engine.proofs.Keeping.{closed_shut, keeps_now, told_then}
 use Rattle.storage_engine.proofs.Every.{each_then, each_closed, one_rose_later}
 use Rattle.storage_engine.proofs.TwoBeats.{one_beat, two_beats, read_as_promised, places_as_promised, chunks_as_promised, made_device, graph_as_promised, values_first, values_second}
-
--- a well-formed job has a split
-pub few_enough : (job : Job) → IsWellFormedJob job → NeedsTooMany job.vertices job.engines job.most → ⊥
-few_enough job well many =
-    let more : 64 < parts_of job = many (parts_of job) (part_count_is job.vertices job.engines job.most well.engines.0 well.most.0) in omega (arith, more, well.few_parts)
 
 pub heads_closed : {X : Type 0} (state : X → DiskState) (job : Job) (olds mids : List X) → EachOne state (λ e old new. HasHead job e new) olds mids → (e : ℕ) (d : X) → e < length mids → InEveryImage (state (get_or mids e d)) IsClosedFront
 heads_closed state job olds mids heads e d within = (heads e d within).closed

@@ -1,6 +1,6 @@
 //! The steps before any chunk: both kinds of devices are emptied, heads are written but for their gates, and the values
 //! devices get their size.
-ghost use Rattle.std.specs.Prelude.{◌≡◌, ◌<◌, ◌≤◌, ◌⊎◌, [], length, replicate, OnOk, OnErr};
+ghost use Rattle.std.specs.Prelude.{◌≡◌, ◌<◌, ◌≤◌, ◌⊎◌, length, replicate, OnOk, OnErr};
 ghost use Rattle.std.specs.List.{All};
 ghost use Rattle.partitioner.specs.Splits.{IsSplitOf, IsSplit};
 ghost use Rattle.graph_model.specs.Jobs.{IsWellFormedJob};

@@ -1,11 +1,7 @@
 //! The steps in which one device of a store is made. A stop at any moment of each leaves what it says.
-ghost use Rattle.std.specs.Prelude.{◌≡◌, ◌+◌, ◌*◌, ◌<◌, ◌≤◌, ◌^◌, [], ◌∷◌, ◌++◌, length, replicate, OnOk};
-ghost use Rattle.std.specs.List.{All};
-ghost use Rattle.ports.specs.Bytes.{after_write};
+ghost use Rattle.std.specs.Prelude.{◌≡◌, ◌+◌, ◌<◌, ◌≤◌, ◌^◌, [], ◌∷◌, length, replicate, OnOk};
 ghost use Rattle.ports.specs.Disk.{InEveryImage, IsSettled};
 ghost use Rattle.ports.specs.Faults.{HasCause};
-ghost use Rattle.ports.specs.Stops.{Leaves};
-ghost use Rattle.ports.specs.Told.{AsTold};
 ghost use Rattle.store_model.specs.Gates;
 ghost use Rattle.store_model.specs.Heads;
 ghost use Rattle.store_model.specs.Heads.{IsShutGraph};

@@ -1,5 +1,5 @@
 //! The steps in which a store is made, engine by engine.
-ghost use Rattle.std.specs.Prelude.{◌≡◌, ◌+◌, ◌*◌, ◌<◌, ◌≤◌, ◌^◌, [], ◌∷◌, length, replicate, OnOk, OnErr};
+ghost use Rattle.std.specs.Prelude.{◌≡◌, ◌+◌, ◌*◌, ◌<◌, ◌≤◌, [], ◌∷◌, length, replicate, OnOk, OnErr};
 ghost use Rattle.std.specs.List.{All};
 ghost use Rattle.ports.specs.Disk.{InEveryImage, IsSettled};
 ghost use Rattle.graph_model.specs.Jobs.{IsWellFormedJob};

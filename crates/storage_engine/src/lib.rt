@@ -25,3 +25,4 @@ pub use preparing::prepare;
 pub use store_reader::{
     Outcome, Part, Served, Serving, Shelf, SlotHead, Store, all_open, read_set, serve, slot_head,
 };
+pub use text::text_limit;

@@ -3,7 +3,6 @@ ghost use Rattle.std.specs.Prelude.{◌≡◌, ◌⊎◌, ◌+◌, ◌≤◌, �
 ghost use Rattle.std.specs.List.{All};
 ghost use Rattle.graph_model.specs.declared.edge.Edge.{Edge};
 ghost use Rattle.graph_model.specs.Jobs.{IsWellFormedJob};
-ghost use Rattle.partitioner.specs.Splits.{IsSplit, IsSplitOf};
 ghost use Rattle.ports.specs.Disk.{InEveryImage};
 ghost use Rattle.ports.specs.Faults.{Rose};
 ghost use Rattle.store_model.specs.Heads.{IsShutGraph};
@@ -119,7 +118,7 @@ fn make_closed<S: Source, D: Disk>(
     ensures shut { IfErr result (λ fault. IsOfText fault → All (λ disk. InEveryImage (D.state disk) IsShutGraph) graphs.new) }
     ensures cause { IfErr result (HasPrepareCause job.now (S.left source.old) (OneRose D.state graphs.old graphs.new ⊎ OneRose D.state values.old values.new) (Rose (S.faults source.old) (S.faults source.new))) }
 {
-    let split = split_of(job);
+    let split = Split::of_job(job);
     let Ok(mut piece) = zero_bytes(alloc, PIECE) else {
         return Err(PrepareFault::Memory);
     };
@@ -135,17 +134,5 @@ fn make_closed<S: Source, D: Disk>(
     match maker.flush(graphs, beat) {
         Ok(index) => Ok(index),
         Err(fault) => Err(stopped(fault)),
-    }
-}
-
-/// The split of a job.
-fn split_of(job: &Job) -> Split
-    requires { IsWellFormedJob job.now }
-    ensures split { IsSplit result }
-    ensures of_job { IsSplitOf job.now result }
-{
-    match Split::of(job.vertices, job.engines, job.most) {
-        Some(split) => split,
-        None => unreachable!(),
     }
 }

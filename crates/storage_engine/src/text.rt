@@ -76,8 +76,8 @@ fn takes_both_directions(program: Program) -> bool
     matches!(program, Program::Labels)
 }
 
-/// The most bytes of a text whose chunks have so many records.
-fn text_limit(chunk: u32) -> u64
+/// The most bytes that a text may have whose chunks have so many records.
+pub fn text_limit(chunk: u32) -> u64
     ensures { result ≡ EdgeText.text_limit chunk }
 {
     (1 << 40).min((1 << 31) * u64::from(chunk))

@@ -1,5 +1,5 @@
 //! Buffers of edges, one for each partition.
-ghost use Rattle.std.specs.Prelude.{◌≡◌, ◌<◌, [], length, replicate, slice_set, IfOk, OnOk, OnErr};
+ghost use Rattle.std.specs.Prelude.{◌≡◌, ◌<◌, length, replicate, slice_set, IfOk, OnOk, OnErr};
 ghost use Rattle.storage_engine.specs.Waiting.{no_edges, waiting, with_edge};
 
 use graph_model::Edge;

@@ -1,7 +1,7 @@
 //! The heads of all graph devices.
 ghost use Rattle.std.specs.Prelude.{◌≡◌, ℕ, ◌<◌, ◌≤◌, List, length, take, Some, None, IfOk, IfErr, OnOk};
 ghost use Rattle.std.specs.List.{All};
-ghost use Rattle.ports.specs.Faults.{HasCause, Rose};
+ghost use Rattle.ports.specs.Faults.{Rose};
 ghost use Rattle.graph_model.specs.Jobs.{IsWellFormedJob};
 ghost use Rattle.store_model.specs.Damage.{first_bad, first_over, is_good, head_of, head_fault, other_fault, heads_fault};
 ghost use Rattle.store_checks.specs.Jobs.{SaysJob};

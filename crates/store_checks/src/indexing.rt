@@ -1,11 +1,10 @@
 //! Where the chunks of the graph devices stand.
 ghost use Rattle.std.specs.Prelude.{◌≡◌, ℕ, ◌<◌, ◌≤◌, List, length, IfOk, IfErr};
-ghost use Rattle.std.specs.Int.{IsInRange};
 ghost use Rattle.ports.specs.Faults.{Rose};
 ghost use Rattle.graph_model.specs.Jobs.{IsWellFormedJob};
 ghost use Rattle.partitioner.specs.Splits.{IsSplit, IsSplitOf};
 ghost use Rattle.chunk_file.specs.Places.{total_of};
-ghost use Rattle.store_model.specs.Damage.{GraphDamaged, head_of};
+ghost use Rattle.store_model.specs.Damage.{GraphDamaged};
 ghost use Rattle.store_checks.specs.Causes.{Tell, HasRecoverCause, scan_fault};
 ghost use Rattle.store_checks.specs.Indexing.{IsIndexed, StopsIn};
 

@@ -1,5 +1,5 @@
 //! The round that is kept in a store.
-ghost use Rattle.std.specs.Prelude.{◌≡◌, ℕ, ◌+◌, ◌*◌, ◌^◌, ◌<◌, ◌≤◌, List, length, slice_index_or, Some, None, IfOk, IfErr, IfSome};
+ghost use Rattle.std.specs.Prelude.{◌≡◌, ℕ, ◌+◌, ◌^◌, ◌<◌, ◌≤◌, List, length, slice_index_or, Some, None, IfOk, IfErr, IfSome};
 ghost use Rattle.ports.specs.Faults.{Rose};
 ghost use Rattle.partitioner.specs.Splits.{IsSplit};
 ghost use Rattle.store_model.specs.Slots.{device_size, slot_of};

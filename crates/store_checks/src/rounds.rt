@@ -1,6 +1,5 @@
 //! What stands on the values devices.
-ghost use Rattle.std.specs.Prelude.{◌≡◌, ◌⊎◌, ℕ, ◌<◌, ◌≤◌, ◌==◌, ◌&&◌, nat_le, List, length, slice_index_or, Some, None, IfOk, IfErr, OnOk, IfSome, true};
-ghost use Rattle.std.specs.List.{All};
+ghost use Rattle.std.specs.Prelude.{◌≡◌, ℕ, ◌<◌, ◌≤◌, ◌==◌, ◌&&◌, nat_le, List, length, slice_index_or, Some, None, IfOk, IfErr, OnOk, true};
 ghost use Rattle.ports.specs.Faults.{Rose};
 ghost use Rattle.partitioner.specs.Splits.{IsSplit};
 ghost use Rattle.store_model.specs.Slots;

@@ -1,18 +1,18 @@
 -- The checks, run on a whole store of one engine and on what is left of it when a byte is another. Each byte was written
 -- by hand.
-use Rattle.std.proofs.Common.{◌≡◌, ◌≢◌, ℕ, ◌+◌, ◌<◌, ◌≤◌, zero, suc, List, [], ◌∷◌, ◌++◌, length, take, drop, set, get_or, true, lit<, lit≤, Some, None, inl, inr, refl, sym, ◌∙◌, ap, arith}
+use Rattle.std.proofs.Common.{◌≡◌, ℕ, ◌+◌, ◌<◌, ◌≤◌, zero, suc, List, [], ◌∷◌, ◌++◌, length, take, drop, set, get_or, true, lit<, lit≤, Some, None, inl, inr, refl, sym, ◌∙◌, ap, arith}
 use Rattle.std.specs.List.{All}
 use Rattle.std.specs.Int.{to_be_bytes, w32}
 use Rattle.std.proofs.lemmas.List.Elements.{All-nil, All-cons}
 use Rattle.graph_model.specs.declared.edge.Edge.{Edge}
 use Rattle.chunk_model.specs.Chunks.{Chunk}
-use Rattle.chunk_model.specs.ChunkBytes.{AreChunk, Belongs, StandsAt, chunk_bytes, chunk_head}
+use Rattle.chunk_model.specs.ChunkBytes.{AreChunk, Belongs, chunk_bytes, chunk_head}
 use Rattle.chunk_model.specs.Layout.{edge_layout, edge_bytes}
 use Rattle.chunk_model.proofs.OnDevice.{told_partition}
 use Rattle.store_model.specs.declared.field.Field.TheVariants.{Format}
-use Rattle.store_model.specs.Heads.{IsOpenGraph, IsShutGraph}
-use Rattle.store_model.specs.Kept.{device, IsPrepared, IsUnprepared}
-use Rattle.store_model.specs.Damage.{Fault, NotPrepared, EnginesDiffer, GraphDamaged, ValuesDamaged, value_of, heads_fault, values_fault, chunks_before, IsEdgeChunk, NoEdgeChunk, BeginsWith, AreChunks, StopsAt, HasFault, IsSound}
+use Rattle.store_model.specs.Heads.{IsOpenGraph}
+use Rattle.store_model.specs.Kept.{device}
+use Rattle.store_model.specs.Damage.{NotPrepared, EnginesDiffer, GraphDamaged, ValuesDamaged, value_of, heads_fault, values_fault, chunks_before, IsEdgeChunk, NoEdgeChunk, BeginsWith, StopsAt, HasFault, IsSound}
 
 edges : List Edge
 edges = record { src = 0; dst = 1; weight = 5 } ∷ record { src = 0; dst = 2; weight = 1 } ∷ record { src = 2; dst = 1; weight = 1 } ∷ []

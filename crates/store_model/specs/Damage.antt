@@ -1,7 +1,7 @@
 -- What is wrong with a store, by the first check that fails. `graphs` and `values` have the bytes of one device for each
 -- engine. The checks are, in this order: all gates are open; each head is well formed; all heads agree; there are as many
 -- engines as devices; behind the heads there are chunks and nothing else; the values devices are well formed.
-use Rattle.std.specs.Prelude.{◌≡◌, ◌⊎◌, ℕ, ◌+◌, ◌-◌, ◌^◌, ◌%◌, ◌==◌, ◌&&◌, ◌||◌, ◌<◌, ◌≤◌, if◌then◌else◌, Bool, true, false, not, nat_lt, nat_le, Option, Some, None, List, [], ◌∷◌, ◌++◌, length, take, drop, map, sum_by, slice_index}
+use Rattle.std.specs.Prelude.{◌≡◌, ◌⊎◌, ℕ, ◌+◌, ◌-◌, ◌^◌, ◌==◌, ◌&&◌, ◌||◌, ◌<◌, ◌≤◌, if◌then◌else◌, Bool, true, not, nat_lt, nat_le, Option, Some, None, List, [], ◌∷◌, ◌++◌, length, take, drop, map, sum_by, slice_index}
 use Rattle.std.specs.List.{All, range_with_len}
 use Rattle.std.specs.Int.{from_be_bytes, w16, w64}
 use Rattle.ports.specs.Bytes.{bytes_at}

@@ -1,5 +1,5 @@
 //! A chunk that is claimed, and its records.
-ghost use Rattle.std.specs.Prelude.{◌≡◌, ℕ, ◌+◌, ◌<◌, ◌≤◌, Some, length, slice_get};
+ghost use Rattle.std.specs.Prelude.{◌≡◌, ◌+◌, ◌<◌, ◌≤◌, Some, length, slice_get};
 ghost use Rattle.ports.specs.Faults.{Rose};
 ghost use Rattle.chunk_object.specs.Epochs.{cursor_of};
 ghost use Rattle.chunk_object.specs.History.{opened_len};

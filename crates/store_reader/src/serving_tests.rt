@@ -1,5 +1,5 @@
 // A chunk that is claimed twice, and a device whose read fails.
-ghost use Rattle.std.specs.Prelude.{◌≡◌, ◌∷◌, [], ◌+◌, ◌<◌, ◌≤◌, length, IfOk};
+ghost use Rattle.std.specs.Prelude.{◌≡◌, ◌∷◌, []};
 ghost use Rattle.chunk_object.specs.Epochs.{cursor_of};
 ghost use Rattle.chunk_object.specs.History.{opened_len};
 ghost use Rattle.chunk_cursor.specs.View.{knows, MayClaim};

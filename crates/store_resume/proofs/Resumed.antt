@@ -11,7 +11,7 @@ use Rattle.graph_model.specs.Programs.{rules_of, shows_side}
 use Rattle.graph_model.specs.Rounds.{IsLastRound}
 use Rattle.graph_model.specs.Answer.{NeverSettles}
 use Rattle.graph_model.proofs.RoundLemmas.{last_is_one}
-use Rattle.partitioner.specs.Splits.{IsSplitOf}
+use Rattle.partitioner.specs.Splits.{IsSplitOf, split_for}
 use Rattle.answer_lines.specs.Printing.{PrintsAll, PrintsFront}
 use Rattle.store_model.specs.Damage as damage
 use Rattle.store_model.specs.Graphs.{graph}
@@ -33,7 +33,7 @@ use Rattle.round_loop.specs.declared.run.Start.TheVariants.{At}
 use Rattle.round_loop.specs.declared.run.Done.{Done}
 use Rattle.round_loop.specs.declared.fault.RoundFault.{RoundFault}
 use Rattle.round_loop.specs.declared.fault.RoundFault.TheVariants as fault
-use Rattle.round_loop.specs.Starts.{split_for, first_made, epochs_to}
+use Rattle.round_loop.specs.Starts.{first_made, epochs_to}
 use Rattle.round_loop.specs.Kept.{StandsAfter}
 use Rattle.round_loop.specs.Keeping.{IsTold, Moment, moment}
 use Rattle.round_loop.specs.Run.{RunsWell, HasRun}

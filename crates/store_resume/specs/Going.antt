@@ -5,7 +5,7 @@ use Rattle.graph_model.specs.declared.job.Job.{Job}
 use Rattle.graph_model.specs.Programs.{rules_of, shows_side}
 use Rattle.chunk_file.specs.declared.index.Place.{Place}
 use Rattle.round_loop.specs.declared.run.Start.{Start}
-use Rattle.round_loop.specs.Starts.{split_for}
+use Rattle.partitioner.specs.Splits.{split_for}
 use Rattle.round_loop.specs.Run.{HasRun}
 use Rattle.job_run.specs.declared.finish.Finish.{Finish}
 use Rattle.job_run.specs.Finish.{rounds_of}

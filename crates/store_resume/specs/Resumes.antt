@@ -18,7 +18,7 @@ use Rattle.store_reader.specs.declared.store.Part.TheVariants.{Graph, Values}
 use Rattle.restart.specs.Storable.{IsStorable}
 use Rattle.restart.specs.Resuming.{changed_of_all}
 use Rattle.round_steps.specs.Going.{IsOpenEverywhere}
-use Rattle.round_loop.specs.Starts.{split_for}
+use Rattle.partitioner.specs.Splits.{split_for}
 use Rattle.round_loop.specs.Keeping.{IsTold}
 use Rattle.round_loop.specs.declared.run.Start.{Start}
 use Rattle.round_loop.specs.declared.run.Start.TheVariants.{Fresh, At}

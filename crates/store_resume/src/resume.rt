@@ -5,7 +5,7 @@ ghost use Rattle.chunk_file.specs.declared.index.TheConstants.{MOST_PLACES};
 ghost use Rattle.chunk_file.specs.Places.{total_of};
 ghost use Rattle.epoch_seats.specs.Between.{IsBetweenEpochs};
 ghost use Rattle.round_steps.specs.Going.{IsStore};
-ghost use Rattle.round_loop.specs.Starts.{split_for};
+ghost use Rattle.partitioner.specs.Splits.{split_for};
 ghost use Rattle.round_loop.specs.Keeping.{moment};
 ghost use Rattle.run_model.specs.Calls.{IsReady};
 ghost use Rattle.store_resume.specs.Resumes.{IsResume};
@@ -17,7 +17,8 @@ use chunk_cursor::{CursorSeat, CursorTable};
 use chunk_file::Index;
 use endings::Ending;
 use graph_model::Job;
-use job_run::{run_job, split_of};
+use job_run::run_job;
+use partitioner::Split;
 use ports::{Beat, Disk, Gate, Sink};
 use restart::{RecoverFault, Recovered, recover};
 use round_loop::Start;
@@ -126,7 +127,7 @@ fn go_on<R: Threads + Sync, K: Sink, D: Disk, G: Gate + Sync>(
       after = moment store.new meters.new.items seat.new.view beat.new;
     }) result }
 {
-    let split = split_of(job);
+    let split = Split::of_job(job);
     let mut room = match AnswerRoom::new(alloc, &split) {
         Ok(room) => room,
         Err(_) => return Ending::Memory,

@@ -21,7 +21,7 @@ use Rattle.ports.specs.Told.{AsTold}
 use Rattle.store_model.specs.Slots.{slot_of}
 use Rattle.apply_round.proofs.Desks.{any_of}
 use Rattle.restart.proofs.HeadsOfJobs.{few_vertices}
-use Rattle.round_loop.specs.Starts.{split_for}
+use Rattle.partitioner.specs.Splits.{split_for}
 use Rattle.round_loop.specs.Kept.{IsRead}
 use Rattle.answer_lines.specs.Values.{HoldValues}
 use Rattle.answer_lines.specs.Printing.{PrintsAll, PrintsFront}

@@ -7,7 +7,7 @@ use Rattle.graph_model.specs.Jobs.{IsWellFormedJob}
 use Rattle.graph_model.specs.Programs.{rules_of}
 use Rattle.ports.specs.Disk.{DiskState, IsDisk, InEveryImage}
 use Rattle.ports.proofs.Told.{present_at}
-use Rattle.partitioner.specs.Splits.{IsSplit}
+use Rattle.partitioner.specs.Splits.{IsSplit, split_for}
 use Rattle.partitioner.proofs.Made.{some_part, job-is_split}
 use Rattle.store_model.specs.Kept.{own_vertices, device, IsReached, HasRound, IsEverywhere}
 use Rattle.store_checks.specs.Causes.{Tell}
@@ -20,7 +20,7 @@ use Rattle.round_steps.specs.Going as going
 use Rattle.round_loop.specs.declared.run.Start.{Start}
 use Rattle.round_loop.specs.declared.run.Start.TheVariants.{At}
 use Rattle.round_loop.specs.Starts as run
-use Rattle.round_loop.specs.Starts.{split_for, first_made}
+use Rattle.round_loop.specs.Starts.{first_made}
 use Rattle.round_loop.specs.Kept as rounds
 use Rattle.round_loop.specs.Kept.{Holds, HasStood, IsKept, IsRead, IsGoodStart, StandsAfter}
 use Rattle.store_rounds.specs.Images.{HaveImages, AreSettledAs}

@@ -7,7 +7,7 @@ ghost use Rattle.graph_model.specs.Programs.{rules_of, shows_side};
 ghost use Rattle.graph_model.specs.Rounds.{IsLastRound, IsWithinGraph, values};
 ghost use Rattle.store_model.specs.Slots.{slot_of};
 ghost use Rattle.round_steps.specs.Going.{Tell};
-ghost use Rattle.round_loop.specs.Starts.{split_for};
+ghost use Rattle.partitioner.specs.Splits.{split_for};
 ghost use Rattle.round_loop.specs.Kept.{IsKept, IsRead};
 ghost use Rattle.answer_lines.specs.Values.{HoldValues};
 ghost use Rattle.answer_lines.specs.Printing.{PrintsAll, PrintsFront};

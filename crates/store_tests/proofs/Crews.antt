@@ -1,5 +1,5 @@
 -- Two workers, and three.
-use Rattle.std.proofs.Common.{ℕ, zero, suc, ◌<◌, List, [], ◌∷◌, get_or, arith}
+use Rattle.std.proofs.Common.{ℕ, zero, suc, ◌<◌, [], ◌∷◌, get_or, arith}
 
 pub two : {X Y : Type 0} (P : X → Y → Type 0) (a b : X) (x y : Y) → P a x → P b y → (w : ℕ) (r : X) (d : Y) → w < 2 → P (get_or (a ∷ b ∷ []) w r) (get_or (x ∷ y ∷ []) w d)
 two P a b x y p q zero r d below = p

@@ -1,5 +1,5 @@
 -- Lists to which elements are pushed, and from which they are popped.
-use Rattle.std.proofs.Common.{◌≡◌, ◌∙◌, ℕ, take, drop, length, refl, List, [], ◌∷◌, ◌++◌, Bool, cond, Option, Some, Result, Ok, sym, ap, subst}
+use Rattle.std.proofs.Common.{◌≡◌, ◌∙◌, ℕ, take, drop, length, refl, List, [], ◌∷◌, ◌++◌, cond, Option, Some, Result, Ok, sym, ap, subst}
 use Rattle.std.specs.List.{All}
 use Rattle.std.specs.Option.{option_to_list, IfSome}
 use Rattle.std.specs.Result.{is_ok}

@@ -1,5 +1,5 @@
 -- Desks of a gather phase in tests.
-use Rattle.std.specs.Prelude.{◌≡◌, ℕ, ◌≤◌, [], List}
+use Rattle.std.specs.Prelude.{◌≡◌, ℕ, ◌≤◌, []}
 use Rattle.ports.specs.Disk.{DiskState}
 use Rattle.partitioner.specs.declared.split.Split.{Split}
 use Rattle.chunk_cursor.specs.Hold.{TableId}

@@ -2,7 +2,7 @@
 ghost use Rattle.std.specs.Prelude.{◌≡◌, ◌<◌};
 ghost use Rattle.mem_devices.specs.MemDisk.{disk_state};
 ghost use Rattle.partitioner.specs.Splits.{IsSplit};
-ghost use Rattle.replica_merge.specs.Accumulators.{split_of as split_in, begun_of, LiesWithin};
+ghost use Rattle.replica_merge.specs.Accumulators.{split_of, begun_of, LiesWithin};
 ghost use Rattle.store_tests.specs.Crews.{AreOfSplit};
 
 use crate::fixtures::{disk_of, meter_of};
@@ -67,7 +67,7 @@ fn take_edges<P: VertexProgram>(
     first: u32,
     replicas: &mut Replicas,
 ) -> bool
-    ensures split { split_in replicas.new ≡ split_in replicas.old }
+    ensures split { split_of replicas.new ≡ split_of replicas.old }
     ensures begun { begun_of replicas.new ≡ begun_of replicas.old }
     ensures places { replicas.new.places ≡ replicas.old.places }
 {
@@ -83,11 +83,11 @@ fn take_edges<P: VertexProgram>(
 
 /// Spills the sums of the partition that is begun.
 fn spill_sums(rt: &impl Abort, partition: u32, replicas: &mut Replicas, disk: &mut MemDisk)
-    requires split { IsSplit (split_in replicas.old) }
+    requires split { IsSplit (split_of replicas.old) }
     requires partition { begun_of replicas.old ≡ partition }
     requires beat { (disk_state disk.old).beat ≡ 0 }
     requires within { LiesWithin replicas.old (disk_state disk.old).size }
-    ensures split { split_in replicas.new ≡ split_in replicas.old }
+    ensures split { split_of replicas.new ≡ split_of replicas.old }
     ensures beat { (disk_state disk.new).beat ≡ 0 }
     ensures within { LiesWithin replicas.new (disk_state disk.new).size }
 {
@@ -106,11 +106,11 @@ fn spill_partition<P: VertexProgram>(
     replicas: &mut Replicas,
     disk: &mut MemDisk,
 )
-    requires split { IsSplit (split_in replicas.old) }
-    requires partition { partition < (split_in replicas.old).parts }
+    requires split { IsSplit (split_of replicas.old) }
+    requires partition { partition < (split_of replicas.old).parts }
     requires beat { (disk_state disk.old).beat ≡ 0 }
     requires within { LiesWithin replicas.old (disk_state disk.old).size }
-    ensures split { split_in replicas.new ≡ split_in replicas.old }
+    ensures split { split_of replicas.new ≡ split_of replicas.old }
     ensures beat { (disk_state disk.new).beat ≡ 0 }
     ensures within { LiesWithin replicas.new (disk_state disk.new).size }
 {
@@ -131,7 +131,7 @@ fn spilled<P: VertexProgram>(
     worker: u32,
 ) -> (Replicas, MemDisk)
     requires { IsSplit split.now }
-    ensures split { split_in result.0 ≡ split.now }
+    ensures split { split_of result.0 ≡ split.now }
     ensures within { LiesWithin result.0 (disk_state result.1).size }
 {
     let mut replicas = Replicas::new(alloc, split, program.unit()).expect(rt, "replicas");

@@ -1,9 +1,8 @@
 //! What several tests begin with.
-ghost use Rattle.std.specs.Prelude.{◌≡◌, ◌≤◌, length, IfOk};
+ghost use Rattle.std.specs.Prelude.{◌≡◌, ◌≤◌, length};
 ghost use Rattle.std.specs.List.{All};
 ghost use Rattle.mem_devices.specs.MemDisk.{disk_state};
 ghost use Rattle.graph_model.specs.Jobs.{IsWellFormedJob, parts_of};
-ghost use Rattle.partitioner.specs.Splits.{IsSplit, IsSplitOf};
 
 use chunk_file::Index;
 use graph_model::{Job, Program};
@@ -34,17 +33,6 @@ pub(crate) fn job_of_three(chunk: u32) -> Job
         limit: 100_000,
         format: 2,
         keep: 1,
-    }
-}
-
-pub(crate) fn split_of(rt: &impl Abort, job: &Job) -> Split
-    requires { IsWellFormedJob job.now }
-    ensures split { IsSplit result }
-    ensures of_job { IsSplitOf job.now result }
-{
-    match Split::of(job.vertices, job.engines, job.most) {
-        Some(split) => split,
-        None => panic!(rt; "a job has a split"),
     }
 }
 

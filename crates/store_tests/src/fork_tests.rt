@@ -5,7 +5,7 @@ ghost use Rattle.mem_devices.specs.MemDisk.{disk_state};
 ghost use Rattle.graph_model.specs.Jobs.{IsWellFormedJob, parts_of};
 ghost use Rattle.partitioner.specs.Splits.{IsSplit, IsSplitOf};
 ghost use Rattle.chunk_cursor.specs.View.{IsFirst};
-ghost use Rattle.replica_merge.specs.Accumulators.{split_of as split_in, LiesWithin};
+ghost use Rattle.replica_merge.specs.Accumulators.{split_of, LiesWithin};
 ghost use Rattle.chunk_object.specs.History.{most_chunks};
 ghost use Rattle.chunk_file.specs.Places.{places_of};
 ghost use Rattle.store_reader.specs.Indexed.{lens_of, IsServing};
@@ -13,7 +13,7 @@ ghost use Rattle.store_reader.specs.Serving.{HasDevices};
 ghost use Rattle.store_tests.specs.Crews.{AreOfSplit};
 ghost use Rattle.store_tests.specs.Desks.{IsReady, HasEnded};
 
-use crate::fixtures::{disk_of, meter_of, one_disk, split_of};
+use crate::fixtures::{disk_of, meter_of, one_disk};
 use crate::gather_tests::{desk_of, end, index_of};
 use crate::seats::seats_of_two;
 use chunk_cursor::{CursorSeat, CursorTable};
@@ -107,7 +107,7 @@ fn take_back(
     requires ended { HasEnded disk_state table.now split.now desk }
     ensures table { first.new.table ≡ table.now }
     ensures first { IsFirst first.new.view }
-    ensures split { split_in result.0 ≡ split.now }
+    ensures split { split_of result.0 ≡ split.now }
     ensures within { LiesWithin result.0 (disk_state result.1).size }
 {
     let _split = split;
@@ -246,7 +246,7 @@ const fn front(engine: u32, partition: u32, lane: u32) -> (u32, u32, Place) {
 fn two_workers_gather_all_updates(rt: HostRuntime) -> Result<(), Fail> {
     let alloc = rt.alloc();
     let job = job_of_four();
-    let split = split_of(&rt, &job);
+    let split = Split::of_job(&job);
     let lanes = [
         lane_of(&rt, alloc, LANES[0], LANES[1]),
         lane_of(&rt, alloc, &[], LANES[2]),

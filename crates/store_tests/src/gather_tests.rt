@@ -1,18 +1,17 @@
 // A worker's share of a gather phase, and of a count.
-ghost use Rattle.std.specs.Prelude.{◌≡◌, ℕ, [], ◌∷◌, ◌<◌, ◌≤◌, length, IfOk};
-ghost use Rattle.std.specs.List.{All};
+ghost use Rattle.std.specs.Prelude.{◌≡◌, ℕ, [], ◌<◌, ◌≤◌};
 ghost use Rattle.mem_devices.specs.MemDisk.{disk_state};
 ghost use Rattle.graph_model.specs.Jobs.{IsWellFormedJob, parts_of};
-ghost use Rattle.partitioner.specs.Splits.{IsSplit, IsSplitOf};
+ghost use Rattle.partitioner.specs.Splits.{IsSplit};
 ghost use Rattle.chunk_object.specs.History.{most_chunks};
 ghost use Rattle.chunk_file.specs.Places.{places_of};
-ghost use Rattle.store_reader.specs.Indexed.{lens_of, IsServing};
+ghost use Rattle.store_reader.specs.Indexed.{lens_of};
 ghost use Rattle.store_reader.specs.Serving.{HasDevices};
-ghost use Rattle.replica_merge.specs.Accumulators.{split_of as split_in, LiesWithin};
+ghost use Rattle.replica_merge.specs.Accumulators.{split_of};
 ghost use Rattle.gather_phase.specs.Rooms.{IsRoom};
 ghost use Rattle.store_tests.specs.Lanes.{AreOnLanes};
 
-use crate::fixtures::{bytes_of, disk_of, job_of_three, make, meter_of, one_disk, split_of};
+use crate::fixtures::{bytes_of, disk_of, job_of_three, make, meter_of, one_disk};
 use crate::seats::seat_of_one;
 use chunk_cursor::{CursorSeat, CursorTable};
 use chunk_file::{Index, Place};
@@ -44,7 +43,7 @@ pub(crate) fn desk_of(
     requires job { IsWellFormedJob job.now }
     requires split { IsSplit split.now }
     ensures seat { (result.seat ≡ seat) × (result.worker ≡ worker) }
-    ensures replicas { split_in result.replicas ≡ split.now }
+    ensures replicas { split_of result.replicas ≡ split.now }
     ensures room { IsRoom job.now result.room }
     ensures spill { ((disk_state result.spill).size ≡ 0) × ((disk_state result.spill).beat ≡ 0) }
 {
@@ -103,7 +102,7 @@ fn share_of_one<'a, P: VertexProgram>(
 {
     let (table, mut first) = CursorTable::new(alloc).expect(rt, "a table");
     let seat = seat_of_one(&table, &mut first, job, index);
-    let split = split_of(rt, job);
+    let split = Split::of_job(job);
     let mut desk = desk_of(rt, alloc, job, &split, seat, 0, read_fails, spill_fails);
     let context = GatherContext {
         program,

@@ -5,11 +5,12 @@ ghost use Rattle.chunk_object.specs.History.{opened_len};
 ghost use Rattle.chunk_cursor.specs.View.{knows, MayClaim};
 ghost use Rattle.chunk_file.specs.Places.{places_of};
 
-use crate::fixtures::{bytes_of, job_of_three, make, make_from, meter_of, split_of};
+use crate::fixtures::{bytes_of, job_of_three, make, make_from, meter_of};
 use chunk_cursor::{CursorSeat, CursorTable};
 use chunk_file::Index;
 use graph_model::Edge;
 use mem_devices::{MemDisk, MemSource, SureSource};
+use partitioner::Split;
 use std::alloc::Global;
 use std::process::Abort;
 use std::test::*;
@@ -76,7 +77,7 @@ fn serve_one(
     requires len { opened_len (cursor_of 0 0) (knows seat.old.view) ≡ length (places_of index.now 0 0) }
 {
     let job = job_of_three(4096);
-    let split = split_of(rt, &job);
+    let split = Split::of_job(&job);
     let mut meter = meter_of(rt, alloc, &[]);
     assert!(rt; split.parts == 1);
     let from = Serving {

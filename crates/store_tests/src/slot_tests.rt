@@ -4,7 +4,7 @@ ghost use Rattle.mem_devices.specs.MemDisk.{disk_state};
 ghost use Rattle.partitioner.specs.Splits.{IsSplit};
 
 use crate::crew::{Applied, Sending, apply_on, crew_of};
-use crate::fixtures::{bytes_of, disk_of, job_of_three, meter_of, split_of};
+use crate::fixtures::{bytes_of, disk_of, job_of_three, meter_of};
 use checkpoint::{close_slot, open_slot, write_set};
 use gather_laws::{NONE, Value};
 use graph_model::Edge;
@@ -118,7 +118,7 @@ fn read_slot(
 #[test]
 fn rounds_are_stored_byte_by_byte(rt: HostRuntime) {
     let alloc = rt.alloc();
-    let split = split_of(&rt, &job_of_three(1));
+    let split = Split::of_job(&job_of_three(1));
     let mut disk = disk_of(&rt, alloc, &[0; 144], &[]);
     store_round(&rt, alloc, &split, &mut disk, 2, 1);
     store_round(&rt, alloc, &split, &mut disk, 3, 0);
@@ -140,7 +140,7 @@ fn rounds_are_stored_byte_by_byte(rt: HostRuntime) {
 #[test]
 fn a_slot_is_closed_by_its_gate_alone(rt: HostRuntime) {
     let alloc = rt.alloc();
-    let split = split_of(&rt, &job_of_three(1));
+    let split = Split::of_job(&job_of_three(1));
     let mut disk = disk_of(&rt, alloc, &device_of(&rt, alloc, &STORED), &[]);
     close(&rt, alloc, &split, &mut disk, 1);
     let calls = disk.moments();
@@ -162,7 +162,7 @@ fn make_round_three(
     fails: &[u64],
     read_fails: &[u64],
 ) -> Applied {
-    let split = split_of(rt, &job_of_three(1));
+    let split = Split::of_job(&job_of_three(1));
     let edges = [(0, 1, 5), (0, 2, 1), (2, 1, 1)].map(|(src, dst, weight)| Edge {
         src,
         dst,

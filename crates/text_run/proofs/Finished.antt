@@ -26,7 +26,8 @@ use Rattle.round_loop.specs.declared.run.Start.TheVariants.{Fresh}
 use Rattle.round_loop.specs.declared.run.Done.{Done}
 use Rattle.round_loop.specs.declared.fault.RoundFault.{RoundFault}
 use Rattle.round_loop.specs.declared.fault.RoundFault.TheVariants as fault
-use Rattle.round_loop.specs.Starts.{split_for, epochs_to}
+use Rattle.partitioner.specs.Splits.{split_for}
+use Rattle.round_loop.specs.Starts.{epochs_to}
 use Rattle.round_loop.specs.Kept.{StandsAfter as RoundStands}
 use Rattle.round_loop.specs.Keeping.{moment}
 use Rattle.round_loop.specs.Run.{RunsWell, HasRun}

@@ -7,7 +7,7 @@ use Rattle.graph_model.specs.declared.job.Job.{Job}
 use Rattle.graph_model.specs.Jobs.{IsWellFormedJob}
 use Rattle.graph_model.specs.Programs.{rules_of}
 use Rattle.graph_model.specs.Answer.{edges}
-use Rattle.partitioner.specs.Splits.{IsSplitOf}
+use Rattle.partitioner.specs.Splits.{IsSplitOf, split_for}
 use Rattle.chunk_cursor.specs.declared.view.View.{View}
 use Rattle.chunk_file.specs.declared.index.Place.{Place}
 use Rattle.store_model.specs.Graphs.{graph}
@@ -17,7 +17,6 @@ use Rattle.restart.specs.Storable.{IsEdgeOf, IsStorable}
 use Rattle.round_steps.specs.Going.{IsStore}
 use Rattle.round_steps.specs.Standing.{HasEdges}
 use Rattle.round_loop.specs.declared.run.Start.TheVariants.{Fresh}
-use Rattle.round_loop.specs.Starts.{split_for}
 use Rattle.round_loop.specs.Kept.{IsGoodStart}
 use Rattle.round_loop.specs.Keeping.{IsTold, moment}
 use Rattle.store_edges.proofs.Standing.{has_edges as edges_of_store}

@@ -1,7 +1,6 @@
 // One run, from the text to the printed answer.
 ghost use Rattle.std.specs.Prelude.{◌≡◌, ◌+◌, ◌^◌, ◌≤◌, List};
 ghost use Rattle.graph_model.specs.Jobs.{IsWellFormedJob};
-ghost use Rattle.graph_model.specs.EdgeText as text;
 ghost use Rattle.store_reader.specs.Devices.{SomeShut};
 ghost use Rattle.round_loop.specs.Keeping.{moment};
 ghost use Rattle.round_steps.specs.Going.{MetersGoOn};
@@ -13,13 +12,14 @@ use answer_lines::AnswerRoom;
 use chunk_cursor::{CursorSeat, CursorTable};
 use endings::Ending;
 use graph_model::Job;
-use job_run::{run_job, split_of};
+use job_run::run_job;
+use partitioner::Split;
 use ports::{Beat, Disk, Gate, Sink, Source};
 use round_loop::Start;
 use run_model::ending_of;
 use std::alloc::Global;
 use std::thread::Threads;
-use storage_engine::{PrepareFault, all_open, prepare};
+use storage_engine::{PrepareFault, all_open, prepare, text_limit};
 use store_reader::Store;
 
 /// Runs a job of format 2 over the text that is left in the source, on a store with as many devices of each kind as the
@@ -100,7 +100,7 @@ fn run_anew<R: Threads + Sync, S: Source, K: Sink, D: Disk, G: Gate + Sync>(
       after = moment store.new meters.new.items seat.new.view beat.new;
     }) result }
 {
-    let split = split_of(job);
+    let split = Split::of_job(job);
     let mut room = match AnswerRoom::new(alloc, &split) {
         Ok(room) => room,
         Err(_) => return Ending::Memory,
@@ -145,11 +145,4 @@ fn refusal(fault: PrepareFault, limit: u64) -> Ending
         PrepareFault::DiskFault => Ending::DiskFault,
         PrepareFault::Memory => Ending::Memory,
     }
-}
-
-/// The most bytes of a text whose chunks have so many records.
-fn text_limit(chunk: u32) -> u64
-    ensures { result ≡ text.text_limit chunk }
-{
-    (1 << 40).min((1 << 31) * u64::from(chunk))
 }

@@ -1,5 +1,5 @@
 //! The updates of a worker on their way to its lanes: a buffer for each partition, whose chunk is written when it is full.
-ghost use Rattle.std.specs.Prelude.{◌≡◌, ℕ, ◌+◌, ◌*◌, ◌^◌, ◌<◌, ◌≤◌, List, ◌++◌, ◌∷◌, [], length, IfOk, IfErr, OnOk, OnErr, Vec as VecOf, vec_len, vec_capacity, slice_index_or};
+ghost use Rattle.std.specs.Prelude.{◌≡◌, ℕ, ◌+◌, ◌*◌, ◌<◌, List, ◌++◌, ◌∷◌, [], length, IfOk, IfErr, OnOk, OnErr, Vec as VecOf, vec_len, vec_capacity, slice_index_or};
 ghost use Rattle.std.specs.Global.{Global as Heap};
 ghost use Rattle.graph_model.specs.declared.job.Job.{Job as JobOf};
 ghost use Rattle.graph_model.specs.Jobs.{IsWellFormedJob};

@@ -1,5 +1,5 @@
 //! What the edges of a chunk send.
-ghost use Rattle.std.specs.Prelude.{◌≡◌, ℕ, ◌+◌, ◌<◌, ◌≤◌, List, ◌++◌, length, IfErr, OnOk, OnErr};
+ghost use Rattle.std.specs.Prelude.{◌≡◌, ◌<◌, List, length, IfErr, OnOk, OnErr};
 ghost use Rattle.std.specs.List.{All};
 ghost use Rattle.graph_model.specs.declared.value.Value.{Value as ValueOf};
 ghost use Rattle.phase_model.specs.Sends.{sent_by, differs};

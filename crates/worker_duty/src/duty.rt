@@ -1,5 +1,5 @@
 //! The duty of a worker.
-ghost use Rattle.std.specs.Prelude.{◌≡◌, ◌≢◌, ℕ, ◌+◌, ◌*◌, ◌%◌, ◌<◌, ◌≤◌, true, false, List};
+ghost use Rattle.std.specs.Prelude.{◌≡◌, ◌≢◌, ℕ, ◌+◌, ◌%◌, ◌<◌, ◌≤◌, true, false};
 ghost use Rattle.chunk_object.specs.Epochs.{cursor_of};
 ghost use Rattle.worker_duty.specs.Shares.{DrainsCursor, DrainsTo, HelpsAt, OwnTo, OthersTo};
 ghost use Rattle.worker_duty.specs.Views.{taken_by_seat, NoneOf, AreFew, IsReady, MayWorkAt, MayWork, HasWorked};

@@ -1,5 +1,5 @@
 // Disks: every image of every moment against a plain replay, and each kind of disk through its trait.
-ghost use Rattle.std.specs.Prelude.{◌≡◌, ◌+◌, ◌<◌, ◌≤◌};
+ghost use Rattle.std.specs.Prelude.{◌+◌, ◌<◌, ◌≤◌};
 ghost use Rattle.mem_devices.specs.MemDisk.{disk_state};
 
 use super::untold::UntoldDisk;

@@ -1,6 +1,5 @@
 // A disk that tells nothing of what it holds, as one over a real file.
-ghost use Rattle.std.specs.Prelude.{◌≤◌, None};
-ghost use Rattle.ports.specs.Disk.{DiskState};
+ghost use Rattle.std.specs.Prelude.{None};
 
 use crate::{MemDisk, MemMeter};
 use ports::{Beat, Disk, Failed};

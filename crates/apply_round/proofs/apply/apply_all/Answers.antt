@@ -1,8 +1,7 @@
 -- Desk by desk, and then over all vertices.
-use Rattle.std.proofs.Common.{◌≡◌, ℕ, List, length, map, refl, sym, ◌∙◌, ap, subst, arith}
+use Rattle.std.proofs.Common.{◌≡◌, sym, subst, arith}
 use Rattle.std.specs.List.{All}
 use Rattle.checkpoint.specs.Room.{IsRoomOf}
-use Rattle.checkpoint.specs.declared.apply.ApplyDesk.{ApplyDesk}
 use Rattle.store_reader.specs.declared.store.Outcome.TheVariants.{Done}
 use Rattle.apply_round.specs.Applying.{terms_in, AppliesToEach}
 use Rattle.apply_round.proofs.Ends.{may_apply, causes_at, rooms_after, applies_to_each, stores_at}

@@ -1,5 +1,5 @@
 -- One desk more.
-use Rattle.std.proofs.Common.{◌≡◌, ◌<◌, length, vec_len, arith}
+use Rattle.std.proofs.Common.{arith}
 use Rattle.checkpoint.specs.Room.{IsRoomOf}
 use Rattle.apply_round.proofs.Desks.{moved_in, engines_more, all_more, all_rest}
 use Rattle.apply_round.proofs.crew.deal.Goals as goal

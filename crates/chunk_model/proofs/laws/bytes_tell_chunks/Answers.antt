@@ -1,4 +1,3 @@
-use Rattle.std.proofs.Common.{arith}
 use Rattle.chunk_model.specs.ChunkBytes.{chunk_bytes}
 use Rattle.chunk_model.proofs.LayoutLaws.{edge_layout_is, update_layout_is}
 use Rattle.chunk_model.proofs.OnDevice.{appended_stands, length-chunk_bytes, one_chunk}

@@ -1,4 +1,4 @@
-use Rattle.std.proofs.Common.{◌≡◌, ℕ, length, ap, sym, ◌∙◌, inr, subst, arith, rules}
+use Rattle.std.proofs.Common.{ap, sym, ◌∙◌, inr, subst, arith, rules}
 use Rattle.std.specs.List.{range_with_len}
 use Rattle.phase_model.specs.JobTerms.{terms_of}
 use Rattle.store_reader.specs.Indexed.{lens_of}

@@ -1,4 +1,4 @@
-use Rattle.std.proofs.Common.{◌≡◌, List, ℕ, ◌++◌, drop, length, ◌∙◌, ap, arith}
+use Rattle.std.proofs.Common.{◌≡◌, List, ℕ, drop, length, ◌∙◌, ap, arith}
 use Rattle.std.proofs.lemmas.List.{take_at}
 use Rattle.ports.specs.Bytes.{after_write}
 use Rattle.mem_devices.specs.Overlays.{after_write-grown}

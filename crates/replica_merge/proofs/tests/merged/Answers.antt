@@ -1,5 +1,5 @@
 -- Two replicas, each with its device.
-use Rattle.std.proofs.Common.{ℕ, zero, suc, ◌<◌, List, [], ◌∷◌, get_or, arith}
+use Rattle.std.proofs.Common.{ℕ, zero, suc, ◌<◌, [], ◌∷◌, get_or, arith}
 use Rattle.mem_devices.specs.declared.disk.MemDisk.{MemDisk}
 use Rattle.mem_devices.specs.MemDisk.{disk_state}
 use Rattle.replica_merge.specs.declared.replicas.Replicas.{Replicas}

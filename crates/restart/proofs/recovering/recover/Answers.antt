@@ -26,7 +26,7 @@ pub returns-in-Err-index_graphs-clause-cause : goal.returns-in-Err-index_graphs-
 returns-in-Err-index_graphs-clause-cause g c =
     let state = g.D.Disk.state in
     let job = c.in-Ok.job in
-    let split = c.split_of-split.result in
+    let split = c.of_job-split.result in
     cause_by (Rose (g.D.M.Meter.faults c.open_job.new.meter) (g.D.M.Meter.faults c.index_graphs.new.meter)) (Rose (g.D.M.Meter.faults c.args.meter.now) (g.D.M.Meter.faults c.index_graphs.new.meter))
     (λ fault. (told : List (List ℕ)) → Tell state c.deref.result.now told → (e : ℕ) × (at : ℕ) × (fault ≡ GraphDamaged e at) × StopsIn job split told e at)
     (λ fault. (graphs values : List (List ℕ)) → Tell state c.args.store.now.graphs.items graphs → Tell state c.args.store.now.values.items values → HasFault graphs values fault)
@@ -34,7 +34,7 @@ returns-in-Err-index_graphs-clause-cause g c =
     (λ rose. omega (arith, rose, c.in-Ok.ensures.later))
     (λ fault found graphs values tell tell'.
     let stops = found graphs (subst (λ xs. Tell state xs graphs) (sym c.deref.ensures.value) tell) in
-    scan_fault graphs values fault job split (c.in-Ok.ensures.says graphs tell) c.split_of-split.ensures.of_job
+    scan_fault graphs values fault job split (c.in-Ok.ensures.says graphs tell) c.of_job-split.ensures.of_job
     (c.in-Ok.ensures.prepared graphs tell) (c.in-Ok.ensures.sound graphs tell) stops.0 stops.1 stops.2 stops.3)
     c.in-Err-index_graphs.ensures.cause
 
@@ -42,14 +42,14 @@ pub returns-in-Err-check_values-clause-cause : goal.returns-in-Err-check_values-
 returns-in-Err-check_values-clause-cause g c =
     let state = g.D.Disk.state in
     let job = c.in-Ok.job in
-    let split = c.split_of-split.result in
+    let split = c.of_job-split.result in
     cause_by (Rose (g.D.M.Meter.faults c.index_graphs.new.meter) (g.D.M.Meter.faults c.check_values.new.meter)) (Rose (g.D.M.Meter.faults c.args.meter.now) (g.D.M.Meter.faults c.check_values.new.meter))
     (λ fault. (told : List (List ℕ)) → Tell state c.deref-2.result.now told → first_over (λ e. device_fault (own_in split e) e (device told e)) (length told) ≡ Some fault)
     (λ fault. (graphs values : List (List ℕ)) → Tell state c.args.store.now.graphs.items graphs → Tell state c.args.store.now.values.items values → HasFault graphs values fault)
     c.in-Err-check_values.fault
     (λ rose. omega (arith, rose, c.in-Ok.ensures.later, c.in-Ok-index_graphs.ensures.later))
     (λ fault found graphs values tell tell'.
-    slot_damage graphs values fault job split c.in-Ok-index_graphs.index (c.in-Ok.ensures.says graphs tell) c.split_of-split.ensures.of_job
+    slot_damage graphs values fault job split c.in-Ok-index_graphs.index (c.in-Ok.ensures.says graphs tell) c.of_job-split.ensures.of_job
     (c.in-Ok.ensures.prepared graphs tell) (c.in-Ok.ensures.sound graphs tell)
     (c.in-Ok-index_graphs.ensures.all graphs (subst (λ xs. Tell state xs graphs) (sym c.deref.ensures.value) tell))
     (found values (subst (λ xs. Tell state xs values) (sym c.deref-2.ensures.value) tell')))
@@ -63,10 +63,10 @@ pub returns-in-Ok-Some-clause-recovered : goal.returns-in-Ok-Some-clause-recover
 returns-in-Ok-Some-clause-recovered g c = λ graphs values tell tell'.
     let state = g.D.Disk.state in
     let job = c.in-Ok.job in
-    let split = c.split_of-split.result in
-    let says = says_split (head_of graphs 0) job split (c.in-Ok.ensures.says graphs tell) c.split_of-split.ensures.of_job in
+    let split = c.of_job-split.result in
+    let says = says_split (head_of graphs 0) job split (c.in-Ok.ensures.says graphs tell) c.of_job-split.ensures.of_job in
     let told : Tell state c.deref-3.result.now values = subst (λ xs. Tell state xs values) (sym c.deref-3.ensures.value) tell' in (
-      opened graphs values job split c.in-Ok-index_graphs.index (c.in-Ok.ensures.says graphs tell) c.split_of-split.ensures.of_job
+      opened graphs values job split c.in-Ok-index_graphs.index (c.in-Ok.ensures.says graphs tell) c.of_job-split.ensures.of_job
           (c.in-Ok.ensures.prepared graphs tell) (c.in-Ok.ensures.sound graphs tell)
           (c.in-Ok-index_graphs.ensures.all graphs (subst (λ xs. Tell state xs graphs) (sym c.deref.ensures.value) tell))
           (c.in_default.ensures.sound values (subst (λ xs. Tell state xs values) (sym c.deref-2.ensures.value) tell')) c.total.ensures.lists,
@@ -78,10 +78,10 @@ pub returns-in-Ok-None-clause-recovered : goal.returns-in-Ok-None-clause-recover
 returns-in-Ok-None-clause-recovered g c = λ graphs values tell tell'.
     let state = g.D.Disk.state in
     let job = c.in-Ok.job in
-    let split = c.split_of-split.result in
-    let says = says_split (head_of graphs 0) job split (c.in-Ok.ensures.says graphs tell) c.split_of-split.ensures.of_job in
+    let split = c.of_job-split.result in
+    let says = says_split (head_of graphs 0) job split (c.in-Ok.ensures.says graphs tell) c.of_job-split.ensures.of_job in
     let told : Tell state c.deref-3.result.now values = subst (λ xs. Tell state xs values) (sym c.deref-3.ensures.value) tell' in (
-      opened graphs values job split c.in-Ok-index_graphs.index (c.in-Ok.ensures.says graphs tell) c.split_of-split.ensures.of_job
+      opened graphs values job split c.in-Ok-index_graphs.index (c.in-Ok.ensures.says graphs tell) c.of_job-split.ensures.of_job
           (c.in-Ok.ensures.prepared graphs tell) (c.in-Ok.ensures.sound graphs tell)
           (c.in-Ok-index_graphs.ensures.all graphs (subst (λ xs. Tell state xs graphs) (sym c.deref.ensures.value) tell))
           (c.in_default.ensures.sound values (subst (λ xs. Tell state xs values) (sym c.deref-2.ensures.value) tell')) c.total.ensures.lists,

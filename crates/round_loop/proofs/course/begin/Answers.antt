@@ -1,7 +1,7 @@
 -- Round 0, by what `make_first` says of it.
 use Rattle.std.proofs.Common.{◌≡◌, Bool, true, false, if◌then◌else◌, refl, sym, ap, ◌∙◌}
 use Rattle.round_loop.specs.Keeping.{Moment, moment}
-use Rattle.round_loop.proofs.Advancing.{split_is}
+use Rattle.partitioner.proofs.Made.{split_is}
 use Rattle.round_loop.proofs.Steps.{begins_at, begins_not}
 use Rattle.round_loop.proofs.course.begin.Goals as goal
 

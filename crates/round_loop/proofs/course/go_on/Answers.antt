@@ -3,7 +3,7 @@ use Rattle.std.proofs.Common.{◌≡◌, ◌+◌, ◌&&◌, [], refl, sym, ap, �
 use Rattle.round_loop.specs.Starts.{first_sent}
 use Rattle.round_loop.specs.Opening.{sends_changed}
 use Rattle.round_loop.specs.Keeping.{Moment, moment}
-use Rattle.round_loop.proofs.Advancing.{split_is}
+use Rattle.partitioner.proofs.Made.{split_is}
 use Rattle.round_loop.proofs.Steps.{few_claims, goes_to, goes_not}
 use Rattle.round_loop.proofs.course.go_on.Goals.{then-has_sent, else-has_sent}
 use Rattle.round_loop.proofs.course.go_on.Goals as goal

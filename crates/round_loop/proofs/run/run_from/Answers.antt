@@ -2,11 +2,11 @@
 use Rattle.std.proofs.Common.{◌≡◌, length, [], refl, sym, subst, arith}
 use Rattle.round_steps.specs.Going.{IsStore}
 use Rattle.round_loop.specs.declared.run.Start.{Start}
-use Rattle.round_loop.specs.Starts.{split_for}
+use Rattle.partitioner.specs.Splits.{split_for}
 use Rattle.round_loop.specs.Keeping.{Moment, moment}
 use Rattle.round_loop.specs.Coming.{IsAt}
 use Rattle.round_loop.specs.Run.{HasRun}
-use Rattle.round_loop.proofs.Advancing.{split_is}
+use Rattle.partitioner.proofs.Made.{split_is}
 use Rattle.round_loop.proofs.Beginning.{found}
 use Rattle.round_loop.proofs.run.run_from.Goals as goal
 

@@ -4,7 +4,7 @@ use Rattle.round_steps.specs.Going.{IsStore}
 use Rattle.round_loop.specs.Keeping.{Moment, moment}
 use Rattle.round_loop.specs.Conditions.{MOST_ROUNDS}
 use Rattle.round_loop.specs.Coming.{GoesOn, bound}
-use Rattle.round_loop.proofs.Advancing.{split_is}
+use Rattle.partitioner.proofs.Made.{split_is}
 use Rattle.round_loop.proofs.Ending.{ends_at, ends_at_limit}
 use Rattle.round_loop.proofs.Steps.{small_round, few_so_far, below_bound}
 use Rattle.round_loop.proofs.run.run_on.Goals as goal

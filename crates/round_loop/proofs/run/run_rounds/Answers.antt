@@ -3,7 +3,7 @@ use Rattle.std.proofs.Common.{◌++◌, ◌∷◌, [], List, sym, subst}
 use Rattle.round_steps.specs.Going.{IsStore}
 use Rattle.round_loop.specs.Keeping.{moment}
 use Rattle.round_loop.specs.Run.{HasRun}
-use Rattle.round_loop.proofs.Advancing.{split_is}
+use Rattle.partitioner.proofs.Made.{split_is}
 use Rattle.round_loop.proofs.Ending.{not_begun, run_with}
 use Rattle.round_loop.proofs.run.run_rounds.Goals as goal
 
@@ -15,7 +15,7 @@ returns-in-Err-clause-run g c =
 
 pub run_from-result-requires-clause-store : goal.run_from-result-requires-clause-store
 run_from-result-requires-clause-store g c κs within =
-    subst (λ s. IsStore g.D.Disk.state s c.args.beat.now c.args.store.now) (sym (split_is c.args.job.now c.split_of-split.result c.split_of-split.ensures.of_job)) c.requires.store
+    subst (λ s. IsStore g.D.Disk.state s c.args.beat.now c.args.store.now) (sym (split_is c.args.job.now c.of_job-split.result c.of_job-split.ensures.of_job)) c.requires.store
 
 pub returns-clause-run : goal.returns-clause-run
 returns-clause-run g c =

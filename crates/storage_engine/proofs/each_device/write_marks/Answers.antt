@@ -1,7 +1,6 @@
 use Rattle.std.proofs.Common.{◌<◌, [], ◌∷◌, length, arith, rules}
 use Rattle.std.proofs.lemmas.Grind.{common_steps}
 use Rattle.store_model.specs.Heads
-use Rattle.store_model.specs.Heads.{IsShutGraph, front}
 use Rattle.storage_engine.specs.Steps.{Step, IsClosedFront, Appended}
 use Rattle.storage_engine.proofs.Every.{none_done, one_done, each_set, each_same}
 use Rattle.storage_engine.proofs.each_device.write_marks.Goals as goal

@@ -1,6 +1,5 @@
 use Rattle.std.proofs.Common.{[], ◌∷◌}
 use Rattle.store_model.specs.Heads
-use Rattle.store_model.specs.Heads.{IsShutGraph, front}
 use Rattle.storage_engine.specs.Steps.{Step, IsClosedFront, Appended}
 use Rattle.storage_engine.proofs.Every.{DoneBelow}
 use Rattle.storage_engine.proofs.each_device.write_marks.Given as goal

@@ -1,4 +1,4 @@
-use Rattle.std.proofs.Common.{◌≡◌, ◌∙◌, length, ap, rules, arith, sym, subst}
+use Rattle.std.proofs.Common.{◌∙◌, length, ap, rules, arith, sym, subst}
 use Rattle.std.specs.List.{All}
 use Rattle.std.proofs.lemmas.List.Elements.{All-nil}
 use Rattle.mem_devices.specs.MemDisk.{disk_state}

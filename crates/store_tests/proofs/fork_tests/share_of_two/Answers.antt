@@ -1,9 +1,7 @@
-use Rattle.std.proofs.Common.{◌≡◌, ◌∙◌, ◌<◌, ◌≤◌, refl, ap, sym, subst, rules, arith}
+use Rattle.std.proofs.Common.{◌∙◌, refl, ap, sym, subst, rules, arith}
 use Rattle.chunk_cursor.specs.Hold.{Hold}
-use Rattle.chunk_file.specs.Places.{places_of}
 use Rattle.phase_model.specs.JobTerms.{terms_of}
 use Rattle.store_reader.specs.Indexed.{lens_of}
-use Rattle.store_reader.specs.Serving.{HasDevices}
 use Rattle.worker_duty.specs.Views.{MayWork}
 use Rattle.mem_devices.specs.declared.disk.MemDisk.{MemDisk}
 use Rattle.mem_devices.specs.MemDisk.{disk_state}

@@ -13,12 +13,12 @@ only_zero n k one below = omega arith
 pub gather_work-requires-clause-serving : goal.gather_work-requires-clause-serving
 gather_work-requires-clause-serving g c κs within = record {
   job = c.requires.job;
-  split = c.split_of-split.ensures.split;
-  of_job = c.split_of-split.ensures.of_job;
+  split = c.of_job-split.ensures.split;
+  of_job = c.of_job-split.ensures.of_job;
   few = c.requires.few;
   devices = λ e p below inside.
       let first : 0 ≡ e = only_zero c.args.job.now.engines e c.requires.one.0 below in
-      let only : 0 ≡ p = only_zero c.split_of-split.result.parts p (subst (λ n. c.split_of-split.result.parts ≡ n) c.requires.one.1 c.split_of-split.ensures.of_job.parts) inside in
+      let only : 0 ≡ p = only_zero c.of_job-split.result.parts p (subst (λ n. c.of_job-split.result.parts ≡ n) c.requires.one.1 c.of_job-split.ensures.of_job.parts) inside in
       subst (λ k. HasDevices c.args.shelf k (places_of c.args.index.now k p)) first
       (subst (λ k. HasDevices c.args.shelf 0 (places_of c.args.index.now 0 k)) only c.requires.devices);
 }

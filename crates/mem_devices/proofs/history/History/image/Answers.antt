@@ -1,4 +1,4 @@
-use Rattle.std.proofs.Common.{◌≡◌, ℕ, min, take, drop, length, arith, ◌∙◌, ap}
+use Rattle.std.proofs.Common.{◌≡◌, min, take, drop, length, arith, ◌∙◌, ap}
 use Rattle.std.proofs.lemmas.List.{take_min}
 use Rattle.mem_devices.specs.History.{after_calls, covered_calls, uncovered_calls}
 use Rattle.mem_devices.proofs.Picking.{picked_image_of}

@@ -1,8 +1,9 @@
+-- A well-formed job has a split.
 use Rattle.std.proofs.Common.{◌<◌, arith}
 use Rattle.graph_model.specs.Jobs.{parts_of}
 use Rattle.graph_model.proofs.SplitLemmas.{part_count_is}
-use Rattle.partitioner.proofs.Made.{made-of_job}
-use Rattle.round_loop.proofs.run.split_of.Goals as goal
+use Rattle.partitioner.proofs.Made.{made-of_job, split_is}
+use Rattle.partitioner.proofs.split.Split.of_job.Goals as goal
 
 pub unreachable-requires : goal.unreachable-requires
 unreachable-requires c =
@@ -12,3 +13,6 @@ unreachable-requires c =
 
 pub returns-clause-of_job : goal.returns-clause-of_job
 returns-clause-of_job c = made-of_job c.args.job.now c.in-Some.split c.requires c.in-Some.ensures.by
+
+pub returns-clause-same : goal.returns-clause-same
+returns-clause-same c = split_is c.args.job.now c.in-Some.split (returns-clause-of_job c)
