@@ -12,13 +12,14 @@ use Rattle.std.proofs.lemmas.List.Sums.{sum_by-cons}
 use Rattle.graph_model.specs.declared.value.Value.{Value}
 use Rattle.graph_model.specs.Partitions.{first_vertex, master_of, own_vertices, parts_of_master, part_len, vertices_in}
 use Rattle.graph_model.specs.Rounds.{value_at}
+use Rattle.graph_model.proofs.ListLemmas.{range_with_len-append}
 use Rattle.gather_laws.specs.Laws.{HaveRoom}
 use Rattle.ports.specs.Bytes.{bytes_at}
 use Rattle.ports.specs.Disk.{DiskState}
 use Rattle.ports.proofs.Parts.{bytes_at-within}
 use Rattle.partitioner.specs.declared.split.Split.{Split}
 use Rattle.partitioner.proofs.Owned.{own_before-fits}
-use Rattle.partitioner.proofs.Ranges.{first_vertex-next, range_with_len-append}
+use Rattle.partitioner.proofs.Ranges.{first_vertex-next}
 use Rattle.store_model.specs.Slots.{slot_start, slot_values, set_bytes, value_bytes, values_bytes}
 use Rattle.store_model.specs.Kept.{values_of}
 use Rattle.store_reader.specs.Reading.{own_in, master_in, len_in, before_in}

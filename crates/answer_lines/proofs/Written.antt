@@ -1,5 +1,5 @@
 -- What is written of bytes that go through a buffer.
-use Rattle.std.proofs.Common.{◌≡◌, ℕ, ◌+◌, List, [], ◌++◌, length, take, Option, Result, Ok, Err, OnErr, sym, ◌∙◌, ap, subst, arith, append_assoc, length-append}
+use Rattle.std.proofs.Common.{◌≡◌, ℕ, ◌+◌, List, [], ◌++◌, length, take, Option, sym, ◌∙◌, ap, subst, arith, append_assoc, length-append}
 use Rattle.std.proofs.lemmas.List.{take-append-le, take_all, append-nil}
 use Rattle.std.proofs.Math.Seq.{take-append-add}
 use Rattle.ports.specs.Sink.{Appends, AppendsFront}
@@ -7,10 +7,6 @@ use Rattle.ports.specs.Told.{AsTold}
 use Rattle.ports.proofs.Told.{as_told_same, as_told_then, as_told_weaker}
 use Rattle.ports.proofs.Streams.{appends_then}
 use Rattle.answer_lines.specs.Lines.{Passes}
-
-pub on_err : {T E P : Type 0} (r : Result T E) → P → OnErr r P
-on_err (Ok x) p = tt
-on_err (Err e) p = p
 
 -- a front of bytes is a front of more bytes
 pub front_more : (bytes more : List ℕ) (x y : Option (List ℕ)) → AsTold (AppendsFront bytes) x y → AsTold (AppendsFront (bytes ++ more)) x y

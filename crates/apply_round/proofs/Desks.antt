@@ -43,8 +43,3 @@ all_rest P xs xs' x first each = let whole : All P (x ∷ xs') = subst (All P) f
 pub capped_end : {A : Type 0} (f : A → ℕ) (xs : List A) (count total : ℕ) → length xs ≡ 0 → count < 2 ^ 64 → capped (count ∷ map f xs) ≡ total → count ≡ total
 capped_end f [] count total none fits is = omega (arith, sum_by-cons (λ (x : ℕ). x) count [])
 capped_end f (x ∷ xs) count total none fits is = absurd (omega arith)
-
--- an item of a list that has one at a place
-pub any_of : {A : Type 0} (xs : List A) (place : ℕ) → place < length xs → A
-any_of [] place within = absurd (omega arith)
-any_of (x ∷ xs) place within = x

@@ -12,9 +12,9 @@ use Rattle.store_reader.specs.declared.store.Outcome.TheVariants.{Done, DiskFaul
 use Rattle.checkpoint.specs.Room.{IsRoomOf}
 use Rattle.checkpoint.specs.declared.apply.ApplyDesk.{ApplyDesk}
 use Rattle.worker_outcomes.specs.Lowest.{lowest_outcome}
+use Rattle.list_moves.proofs.Desks.{some_of}
 use Rattle.apply_round.specs.Crew.{AreDealt, OneRose, EndsByCauses, capped}
 use Rattle.apply_round.specs.Applying.{RoundTerms, MayApply, Applies, Stores, HasApplied, AppliesToEach, StoresOnEach}
-use Rattle.apply_round.proofs.Desks.{any_of}
 
 stop_done : (outcome : Outcome) (rest : List Outcome) → outcome ≡ Done → lowest_outcome (outcome ∷ rest) ≡ lowest_outcome rest
 stop_done outcome rest is = ap (λ (o : Outcome). lowest_outcome (o ∷ rest)) is
@@ -125,7 +125,7 @@ module _ {D M : Type 0} (state : D → DiskState) (faults : M → ℕ) where
     pub rooms_after : (olds news : List (ApplyDesk D M)) → length news ≡ length olds → EachApplied olds news → All (IsRoomOf t.split) (map (λ (d : ApplyDesk D M). d.room) news)
     rooms_after olds news same each k room below =
         let within : k < length news = omega (arith, below, length-map news (λ (d : ApplyDesk D M). d.room)) in
-        let desk : ApplyDesk D M = any_of news k within in
+        let desk : ApplyDesk D M = some_of news k within in
         subst (IsRoomOf t.split) (sym (get_or-map (λ (d : ApplyDesk D M). d.room) news k desk room within)) (each k desk (omega arith)).room
 
     module _ (split : Split) (values : List D) (meters : List M) (olds news : List (ApplyDesk D M)) (dealt : AreDealt split values meters olds) (same : length news ≡ length olds) (each : EachApplied olds news) where
@@ -152,7 +152,7 @@ module _ {D M : Type 0} (state : D → DiskState) (faults : M → ℕ) where
       unfolding long
       applies_to_each e d below =
           let within : e < length olds = omega (arith, long, below) in
-          let desk : ApplyDesk D M = any_of olds e within in
+          let desk : ApplyDesk D M = some_of olds e within in
           at_engine (Applies t) e desk d within (each e desk within).applies
 
       done_at : ((w : ℕ) (outcome : Outcome) → w < length (outcomes news) → slice_index_or (outcomes news) w outcome ≡ Done) → (e : ℕ) (desk : ApplyDesk D M) → e < length news → (slice_index_or news e desk).outcome ≡ Done
@@ -168,7 +168,7 @@ module _ {D M : Type 0} (state : D → DiskState) (faults : M → ℕ) where
             sum = refl;
             each = λ e d below.
                 let within : e < length olds = omega (arith, long, below) in
-                let desk : ApplyDesk D M = any_of olds e within in
+                let desk : ApplyDesk D M = some_of olds e within in
                 let here : e < length news = omega (arith, same, within) in
                 let stores : Stores t (slice_index_or olds e desk).engine (slice_index_or news e desk).changed (state (slice_index_or olds e desk).disk) (state (slice_index_or news e desk).disk) =
                 (each e desk within).stores (done_at done e desk here) in

@@ -12,10 +12,10 @@ use Rattle.store_model.specs.Slots.{slot_of, HoldsRound}
 use Rattle.store_reader.specs.Reading.{own_in}
 use Rattle.checkpoint.specs.Applied.{changed_by}
 use Rattle.checkpoint.specs.Storing.{WhileStoring}
+use Rattle.list_moves.proofs.Desks.{some_of}
 use Rattle.apply_round.specs.Crew.{capped}
 use Rattle.apply_round.specs.Made.{made, changed_among, own_by, share_of}
 use Rattle.apply_round.specs.Applying.{RoundTerms, Tells, AppliesToEach, StoresOnEach, StandsBefore, MakesRound, applied_by}
-use Rattle.apply_round.proofs.Desks.{any_of}
 use Rattle.apply_round.proofs.Shares.{share_made, changed_share, changed_among-le, changed_of_all, length-share, fit_share}
 
 module _ {D : Type 0} (state : D → DiskState) (t : RoundTerms) (numbers : ℕ → ℕ) (before : List Value) (old new : List D) (split : IsSplit t.split) (many : length old ≡ t.split.engines) (stands : StandsBefore state t numbers before old) where
@@ -74,6 +74,6 @@ module _ {D : Type 0} (state : D → DiskState) (t : RoundTerms) (numbers : ℕ 
         sum_capped changed (stores is_done).counts ((stores is_done).many ∙ many) (stores is_done).sum
         (λ e below.
         let within : e < length old = omega (arith, many, below) in
-        let d : D = any_of old e within in
+        let d : D = some_of old e within in
         ((stores is_done).each e d within).counted stands.numbers_are.devices (share_of t.split e before) (tells e d within) ∙ changed_are e);
   }

@@ -11,16 +11,18 @@ use Rattle.std.proofs.lemmas.List.Concat.{length-flat_map}
 use Rattle.graph_model.specs.declared.value.Value.{Value}
 use Rattle.graph_model.specs.Partitions.{first_vertex, part_len, vertices_in, parts_of_master, master_of}
 use Rattle.graph_model.specs.Programs.{Rules}
-use Rattle.graph_model.specs.Rounds.{merged, of_vertices, value_at, has_changed}
+use Rattle.graph_model.specs.Rounds.{merged, of_vertices, value_at, has_changed, differs}
 use Rattle.graph_model.proofs.RoundLemmas.{get_or-of_vertices}
+use Rattle.graph_model.proofs.ListLemmas.{range_with_len-more}
 use Rattle.gather_laws.specs.Laws.{HaveRoom}
 use Rattle.partitioner.specs.declared.split.Split.{Split}
-use Rattle.partitioner.proofs.Ranges.{first_vertex-next, ranges_are_all, range_with_len-more}
+use Rattle.partitioner.proofs.Ranges.{first_vertex-next, ranges_are_all}
+use Rattle.partitioner.proofs.Owned.{one_of}
 use Rattle.replica_merge.specs.declared.replicas.Replicas.{Replicas}
 use Rattle.replica_merge.specs.Merging.{sums_for}
 use Rattle.store_model.specs.Kept.{values_of}
 use Rattle.store_reader.specs.Reading.{own_in, len_in}
-use Rattle.checkpoint.specs.Applied.{sums_in, start_each, next_each, values_in, applied, applied_on, differs, changes, changed_by}
+use Rattle.checkpoint.specs.Applied.{sums_in, start_each, next_each, values_in, applied, applied_on, changes, changed_by}
 use Rattle.apply_round.specs.Made.{made, changed_among, own_by, share_of, AreMerged}
 
 -- Values of consecutive vertices.
@@ -144,15 +146,12 @@ sum_if : (g : ℕ → ℕ) (x : ℕ) (xs : List ℕ) (test : Bool) → sum_by g 
 sum_if g x xs true = sum_by-cons g x xs
 sum_if g x xs false = sym (zero-add (sum_by g xs))
 
-one_more_below : (h n more : ℕ) → (if nat_lt h (n + 1) then more else 0) ≡ (if nat_lt h n then more else 0) + (if h == n then more else 0)
-one_more_below h n more = grind arith
-
 below_more : (g h : ℕ → ℕ) (n : ℕ) (xs : List ℕ) → sum_by g (filter (λ x. nat_lt (h x) (n + 1)) xs) ≡ sum_by g (filter (λ x. nat_lt (h x) n) xs) + sum_by g (filter (λ x. h x == n) xs)
 below_more g h n [] = refl
 below_more g h n (x ∷ xs) = omega (
   arith,
   below_more g h n xs,
-  one_more_below (h x) n (g x),
+  one_of (h x) n (g x),
   sum_if g x (filter (λ y. nat_lt (h y) (n + 1)) xs) (nat_lt (h x) (n + 1)),
   sum_if g x (filter (λ y. nat_lt (h y) n) xs) (nat_lt (h x) n),
   sum_if g x (filter (λ y. h y == n) xs) (h x == n),

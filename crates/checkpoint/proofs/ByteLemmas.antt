@@ -5,11 +5,9 @@ use Rattle.std.proofs.lemmas.List.{take_at, drop_at, drop-drop, take_more, lengt
 use Rattle.std.proofs.lemmas.Grind.{flat_map-append}
 use Rattle.graph_model.specs.declared.value.Value.{Value}
 use Rattle.ports.specs.Bytes.{after_write}
+use Rattle.ports.proofs.Parts.{take-after_write}
 use Rattle.store_model.specs.Slots.{value_bytes, values_bytes}
-
-pub length-value_bytes : (value : Value) → length (value_bytes value) ≡ 16
-unfolding value_bytes
-length-value_bytes value = refl
+use Rattle.store_model.proofs.SlotLemmas.{length-value_bytes}
 
 pub length-values_bytes : (values : List Value) → length (values_bytes values) ≡ 16 * length values
 length-values_bytes [] = refl
@@ -38,12 +36,6 @@ pub put_value_is : (at : ℕ) (value : Value) (old : List ℕ) → at + 16 ≤ l
 unfolding value_bytes
 put_value_is at value old within = writes_join at (to_be_bytes w64 value.main) (to_be_bytes w64 value.side) old (omega arith)
 
--- the front of what was written, up to the end of the piece
-front_of-after_write : (at n : ℕ) (piece old : List ℕ) → at ≤ length old → n ≡ at + length piece → take n (after_write at piece old) ≡ take at old ++ piece
-front_of-after_write at n piece old within end =
-    take_at (take at old ++ piece) (drop (at + length piece) old) n
-    (length-append (take at old) piece ∙ ap (λ k. k + length piece) (length-take-le at old within) ∙ sym end)
-
 -- a loop that writes values, one behind the other
 pub put_more : (values : List Value) (bytes : List ℕ) (i : ℕ) (d : Value) → i < length values → 16 * (i + 1) ≤ length bytes →
     take (16 * i) bytes ≡ values_bytes (take i values) →
@@ -51,7 +43,7 @@ pub put_more : (values : List Value) (bytes : List ℕ) (i : ℕ) (d : Value) �
 put_more values bytes i d below within so_far =
     let value : Value = get_or values i d in
     let end : 16 * (i + 1) ≡ 16 * i + length (value_bytes value) = omega (arith, length-value_bytes value) in
-    front_of-after_write (16 * i) (16 * (i + 1)) (value_bytes value) bytes (omega arith) end
+    take-after_write (16 * i) (16 * (i + 1)) (value_bytes value) bytes (omega arith) end
     ∙ ap (λ front. front ++ value_bytes value) so_far
     ∙ ap (λ rest. values_bytes (take i values) ++ rest) (sym (append-nil (value_bytes value)))
     ∙ sym (ap values_bytes (take_more values i d below) ∙ flat_map-append value_bytes (take i values) (value ∷ []))

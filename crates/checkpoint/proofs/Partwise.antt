@@ -12,7 +12,6 @@ use Rattle.graph_model.specs.Programs.{Rules}
 use Rattle.partitioner.specs.declared.split.Split.{Split}
 use Rattle.partitioner.specs.Splits.{own_below}
 use Rattle.partitioner.proofs.Owned.{own_below-master, own_below-other, own_before-fits}
-use Rattle.partitioner.proofs.Ranges.{range_with_len-more}
 use Rattle.ports.specs.Bytes.{bytes_at, after_write, Torn}
 use Rattle.ports.specs.Disk.{DiskState, IsDisk, InEveryImage}
 use Rattle.ports.specs.Stops.{Leaves}
@@ -22,6 +21,7 @@ use Rattle.ports.proofs.Told.{as_told_same, as_told_then, as_told_to, sized_at}
 use Rattle.ports.proofs.Stops.{started}
 use Rattle.graph_model.specs.Rounds.{merged}
 use Rattle.graph_model.proofs.RoundLemmas.{of_vertices_is}
+use Rattle.graph_model.proofs.ListLemmas.{range_with_len-more}
 use Rattle.replica_merge.specs.declared.replicas.Replicas.{Replicas}
 use Rattle.replica_merge.specs.Merging.{MergesAll, sums_for}
 use Rattle.store_model.specs.Slots.{slot_start, slot_size, slot_values, set_start, device_size, value_bytes, values_bytes, IsClosed}

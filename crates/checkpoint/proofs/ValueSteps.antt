@@ -8,12 +8,13 @@ use Rattle.std.proofs.lemmas.List.{take_at, drop_at, take_more, take_more_set}
 use Rattle.std.proofs.lemmas.List.FromFn.{length-range_with_len}
 use Rattle.graph_model.specs.declared.value.Value.{Value}
 use Rattle.graph_model.specs.Programs.{Rules}
-use Rattle.partitioner.proofs.Ranges.{range_with_len-append}
+use Rattle.graph_model.proofs.ListLemmas.{range_with_len-append}
+use Rattle.graph_model.specs.Rounds.{differs}
 use Rattle.partitioner.specs.declared.split.Split.{Split}
 use Rattle.store_model.specs.Slots.{value_bytes, values_bytes}
+use Rattle.store_model.proofs.SlotLemmas.{length-value_bytes}
 use Rattle.gather_laws.specs.Laws.{HaveRoom}
-use Rattle.checkpoint.specs.Applied.{start_each, next_each, changes, differs, values_in, changed_by}
-use Rattle.checkpoint.proofs.ByteLemmas.{length-value_bytes}
+use Rattle.checkpoint.specs.Applied.{start_each, next_each, changes, values_in, changed_by}
 
 start_each-append : (rules : Rules) (vs ws ss ts : List ℕ) → length vs ≡ length ss → start_each rules (vs ++ ws) (ss ++ ts) ≡ start_each rules vs ss ++ start_each rules ws ts
 start_each-append rules [] ws [] ts same = refl

@@ -1,10 +1,10 @@
 -- The values that apply makes of the accumulators of all workers.
-use Rattle.std.specs.Prelude.{ℕ, ◌+◌, zero, suc, Bool, not, ◌==◌, ◌&&◌, if◌then◌else◌, List, [], ◌∷◌, ◌++◌, length, map, take, drop}
+use Rattle.std.specs.Prelude.{ℕ, ◌+◌, zero, suc, if◌then◌else◌, List, [], ◌∷◌, ◌++◌, length, map, take, drop}
 use Rattle.std.specs.List.{range_with_len}
 use Rattle.graph_model.specs.declared.value.Value.{Value}
 use Rattle.graph_model.specs.Partitions.{vertices_in, parts_of_master}
 use Rattle.graph_model.specs.Programs.{Rules}
-use Rattle.graph_model.specs.Rounds.{merged}
+use Rattle.graph_model.specs.Rounds.{merged, differs}
 use Rattle.partitioner.specs.declared.split.Split.{Split}
 use Rattle.replica_merge.specs.declared.replicas.Replicas.{Replicas}
 use Rattle.replica_merge.specs.Merging.{sums_for}
@@ -43,9 +43,6 @@ applied rules split round sums (p ∷ ps) before =
 abbrev pub applied_on : Rules → Split → (engine round : ℕ) → List Replicas → (devices : List (List ℕ)) → (before : List Value) → List Value
 applied_on rules split engine round replicas devices before =
     applied rules split round (sums_in rules split replicas devices) (parts_of_master split.engines split.parts engine) before
-
-abbrev pub differs : Value → Value → Bool
-differs a b = not (a.main == b.main && a.side == b.side)
 
 -- at how many places two lists of values differ
 abbrev pub changes : List Value → List Value → ℕ

@@ -2,7 +2,8 @@
 ghost use Rattle.std.specs.Prelude.{◌≡◌, ◌+◌, ◌^◌, ◌<◌, ◌≤◌, if◌then◌else◌, length};
 ghost use Rattle.std.specs.List.{range_with_len};
 ghost use Rattle.gather_laws.specs.Laws.{HaveRoom};
-ghost use Rattle.checkpoint.specs.Applied.{start_each, next_each, changes, differs};
+ghost use Rattle.graph_model.specs.Rounds.{differs};
+ghost use Rattle.checkpoint.specs.Applied.{start_each, next_each, changes};
 
 use gather_laws::VertexProgram;
 use graph_model::Value;

@@ -1,6 +1,5 @@
 -- The cause of a fault, handed on.
-use Rattle.std.proofs.Common.{ℕ, ◌≤◌, arith}
-use Rattle.ports.specs.Faults.{Rose}
+use Rattle.std.proofs.Common.{ℕ}
 use Rattle.chunk_file.specs.declared.fault.ChunkFault.{ChunkFault}
 use Rattle.chunk_file.specs.declared.fault.ChunkFault.TheVariants.{DiskFault, Damaged, Memory}
 use Rattle.chunk_file.specs.Causes.{HasChunkCause}
@@ -11,7 +10,3 @@ pub handed_on : (rose also_rose : Type 0) (damaged also_damaged : ℕ → Type 0
 handed_on rose also_rose damaged also_damaged by_rise by_damage DiskFault cause = by_rise cause
 handed_on rose also_rose damaged also_damaged by_rise by_damage (Damaged at) cause = by_damage at cause
 handed_on rose also_rose damaged also_damaged by_rise by_damage Memory cause = tt
-
--- a count that rose rose since any earlier moment
-pub rose_since : (first before now : ℕ) → first ≤ before → Rose before now → Rose first now
-rose_since first before now earlier rose = omega arith

@@ -12,7 +12,7 @@ use Rattle.ports.specs.Sink.{Appends}
 use Rattle.chunk_model.specs.Layout.{Layout, IsLayout}
 use Rattle.chunk_model.specs.ChunkBytes.{chunk_head, chunk_bytes, chunk_width, StandsAt, IsChunkAt, NoChunkAt}
 use Rattle.chunk_model.proofs.OnDevice.{length-chunk_bytes, stands_within, told_partition, told_count}
-use Rattle.chunk_file.proofs.Pieces.{bytes_of_piece}
+use Rattle.chunk_model.proofs.LayoutLaws.{bytes_of_part}
 
 -- What the head of a chunk at the front tells.
 pub record HeadTells {X : Type 0} (layout : Layout X) (p : ℕ) (bytes : List ℕ) (records : List X) : Type 0 where
@@ -40,9 +40,9 @@ unfolding chunk_bytes chunk_head
 makes_chunk layout p bytes records each long partition count body =
     let width : ℕ = layout.width * length records in
     let first : to_be_bytes w32 p ≡ take 4 bytes =
-    be_bytes_4 (take 4 bytes) p (omega (arith, length-take 4 bytes)) (bytes_of_piece 0 4 bytes each) partition in
+    be_bytes_4 (take 4 bytes) p (omega (arith, length-take 4 bytes)) (bytes_of_part 0 4 bytes each) partition in
     let second : to_be_bytes w32 (length records) ≡ take 4 (drop 4 bytes) =
-    be_bytes_4 (take 4 (drop 4 bytes)) (length records) (omega (arith, length-take 4 (drop 4 bytes), length-drop 4 bytes)) (bytes_of_piece 4 4 bytes each) count in
+    be_bytes_4 (take 4 (drop 4 bytes)) (length records) (omega (arith, length-take 4 (drop 4 bytes), length-drop 4 bytes)) (bytes_of_part 4 4 bytes each) count in
     let whole : (to_be_bytes w32 p ++ to_be_bytes w32 (length records) ++ flat_map layout.bytes records) ++ drop (8 + width) bytes ≡ bytes =
     ap (λ xs. (xs ++ to_be_bytes w32 (length records) ++ flat_map layout.bytes records) ++ drop (8 + width) bytes) first
     ∙ ap (λ xs. (take 4 bytes ++ xs ++ flat_map layout.bytes records) ++ drop (8 + width) bytes) second

@@ -1,5 +1,5 @@
 -- The records of a partition, by the range of its vertices.
-use Rattle.std.proofs.Common.{◌≡◌, ℕ, zero, suc, ◌+◌, ◌*◌, ◌/◌, ◌<◌, ◌≤◌, Bool, true, List, [], ◌∷◌, refl, sym, ◌∙◌, ap, subst, arith, nat_lt, nat_le}
+use Rattle.std.proofs.Common.{◌≡◌, ℕ, zero, suc, ◌+◌, ◌*◌, ◌/◌, ◌<◌, ◌≤◌, true, List, [], ◌∷◌, refl, sym, ◌∙◌, ap, subst, arith, nat_lt, nat_le}
 use Rattle.std.specs.Prelude.{◌&&◌}
 use Rattle.std.specs.List.{All, list_all}
 use Rattle.std.proofs.lemmas.Bool.{and_parts, and_from, ltb-true, lt-ltb, leb-true, le-leb}
@@ -7,6 +7,7 @@ use Rattle.std.proofs.lemmas.List.Elements.{All-nil, All-cons, All-head, All-tai
 use Rattle.std.proofs.Math.Nat.{div-eq_of_lt-le, div-mul-le_self, lt-div-mul-add}
 use Rattle.graph_model.specs.Partitions.{ceil_div, first_vertex}
 use Rattle.graph_model.proofs.SplitLemmas.{ceil_div-below}
+use Rattle.graph_model.proofs.BoolLemmas.{all_three}
 use Rattle.chunk_model.specs.Layout.{Layout, IsLayout}
 use Rattle.chunk_model.specs.ChunkBytes.{Belongs}
 use Rattle.chunk_file.specs.Chunks.{is_in}
@@ -37,12 +38,6 @@ of_range vertices parts span p home is below from to =
     let high : home < (p + 1) * span = omega arith in
     div-eq_of_lt-le span low high
 
-three_parts : (a b c : Bool) → (a && b && c) ≡ true → (a ≡ true) × (b ≡ true) × (c ≡ true)
-three_parts a b c is =
-    let outer = and_parts (a && b) c is in
-    let inner = and_parts a b outer.0 in
-    (inner.0, inner.1, outer.1)
-
 module _ {X : Type 0} (layout : Layout X) (laws : IsLayout layout) (vertices parts span p : ℕ) (is : span ≡ ceil_div vertices parts) where
   abbrev first : ℕ
   first = first_vertex vertices parts p
@@ -52,7 +47,7 @@ module _ {X : Type 0} (layout : Layout X) (laws : IsLayout layout) (vertices par
 
   belongs_if : (r : X) → is_in layout vertices first end r ≡ true → Belongs layout vertices span p r
   belongs_if r in' =
-      let tests = three_parts (layout.fits vertices r) (nat_le first (layout.home r)) (nat_lt (layout.home r) end) in' in
+      let tests = all_three (layout.fits vertices r) (nat_le first (layout.home r)) (nat_lt (layout.home r) end) in' in
       record {
         fits = tests.0;
         home = of_range vertices parts span p (layout.home r) is (laws.home_fits vertices r tests.0) (leb-true first (layout.home r) tests.1) (ltb-true (layout.home r) end tests.2);

@@ -1,22 +1,14 @@
 -- Records one behind another in bytes, with one more.
-use Rattle.std.proofs.Common.{◌≡◌, ◌⊎◌, inl, inr, ℕ, ◌+◌, ◌<◌, ◌≤◌, Bool, true, false, List, [], ◌∷◌, ◌++◌, length, take, drop, get_or, set, refl, sym, ◌∙◌, ap, subst, arith, append-nil, length-take, length-drop}
+use Rattle.std.proofs.Common.{◌≡◌, ℕ, ◌+◌, ◌<◌, ◌≤◌, Bool, true, false, List, [], ◌∷◌, ◌++◌, length, take, drop, get_or, set, refl, sym, ◌∙◌, ap, subst, arith, append-nil, length-take, length-drop}
 use Rattle.std.specs.List.{All, flat_map, list_all}
-use Rattle.std.proofs.lemmas.List.{take_more_set, get_or-take, get_or-drop, get_or_past}
+use Rattle.std.proofs.lemmas.List.{take_more_set}
 use Rattle.std.proofs.lemmas.List.Elements.{All-append, All-cons, All-nil}
 use Rattle.std.proofs.lemmas.List.Folds.{list_all-append}
 use Rattle.std.proofs.lemmas.Grind.{flat_map-append}
 use Rattle.std.proofs.Math.Seq.{take-add}
-use Rattle.std.proofs.lemmas.Bool.{cases_lt}
 use Rattle.std.specs.Prelude.{◌&&◌}
 use Rattle.chunk_model.specs.Layout.{Layout, IsLayout}
-
--- the bytes of a part are bytes
-pub bytes_of_piece : (from count : ℕ) (bytes : List ℕ) → ((i : ℕ) → get_or bytes i 0 < 256) → (i : ℕ) → get_or (take count (drop from bytes)) i 0 < 256
-bytes_of_piece from count bytes each i = by_place (cases_lt i count)
-  where
-    by_place : (i < count) ⊎ (count ≤ i) → get_or (take count (drop from bytes)) i 0 < 256
-    by_place (inl within) = omega (arith, get_or-take count (drop from bytes) i 0 within, get_or-drop from bytes i 0, each (from + i))
-    by_place (inr past) = omega (arith, get_or_past (take count (drop from bytes)) i 0 (omega (arith, length-take count (drop from bytes))))
+use Rattle.chunk_model.proofs.LayoutLaws.{bytes_of_part}
 
 -- what one more record's bytes say
 pub next_piece : {X : Type 0} (layout : Layout X) → IsLayout layout → (bytes : List ℕ) → ((i : ℕ) → get_or bytes i 0 < 256) → (start : ℕ) (r : X) →
@@ -25,7 +17,7 @@ pub next_piece : {X : Type 0} (layout : Layout X) → IsLayout layout → (bytes
 next_piece layout laws bytes each start r within is =
     let long : length (take layout.width (drop start bytes)) ≡ layout.width =
     omega (arith, length-take layout.width (drop start bytes), length-drop start bytes) in
-    let said = laws.spelled (take layout.width (drop start bytes)) (bytes_of_piece start layout.width bytes each) long in
+    let said = laws.spelled (take layout.width (drop start bytes)) (bytes_of_part start layout.width bytes each) long in
     (ap layout.bytes is ∙ said.0, ap layout.holds is ∙ said.1)
 
 pub next_written : {X : Type 0} (layout : Layout X) (bytes : List ℕ) (start i : ℕ) (into : List X) (r : X) → i < length into →

@@ -8,6 +8,7 @@ use Rattle.std.specs.Prelude.{if◌then◌else◌}
 use Rattle.graph_model.specs.declared.edge.Edge.{Edge}
 use Rattle.graph_model.specs.declared.edge.TheConstants.{MAX_WEIGHT}
 use Rattle.graph_model.specs.declared.value.Update.{Update}
+use Rattle.graph_model.proofs.BoolLemmas.{all_three}
 use Rattle.chunk_model.specs.Layout.{IsLayout, edge_width, edge_bytes, edge_of, holds_edge, edge_layout, update_bytes, update_of, holds_update, update_layout}
 
 -- Numbers of four and of eight bytes.
@@ -17,7 +18,7 @@ below_4 bs bytes = omega (arith, bytes 0, bytes 1, bytes 2, bytes 3)
 below_8 : (bs : List ℕ) → ((i : ℕ) → get_or bs i 0 < 256) → from_be_bytes w64 bs < 2 ^ 64
 below_8 bs bytes = omega (arith, bytes 0, bytes 1, bytes 2, bytes 3, bytes 4, bytes 5, bytes 6, bytes 7)
 
-bytes_of_part : (from n : ℕ) (bs : List ℕ) → ((i : ℕ) → get_or bs i 0 < 256) → (i : ℕ) → get_or (take n (drop from bs)) i 0 < 256
+pub bytes_of_part : (from n : ℕ) (bs : List ℕ) → ((i : ℕ) → get_or bs i 0 < 256) → (i : ℕ) → get_or (take n (drop from bs)) i 0 < 256
 bytes_of_part from n bs bytes i = by_place (cases_lt i n)
   where
     by_place : (i < n) ⊎ (n ≤ i) → get_or (take n (drop from bs)) i 0 < 256
@@ -52,13 +53,6 @@ get_below : (short : Bool) (bs : List ℕ) → ((i : ℕ) → get_or bs i 0 < 25
 get_below true bs bytes = below_4 bs bytes
 get_below false bs bytes = below_8 bs bytes
 
--- three tests in a row
-three_parts : (a b c : Bool) → (a && b && c) ≡ true → (a ≡ true) × (b ≡ true) × (c ≡ true)
-three_parts a b c is =
-    let outer = and_parts (a && b) c is in
-    let inner = and_parts a b outer.0 in
-    (inner.0, inner.1, outer.1)
-
 three_from : (a b c : Bool) → a ≡ true → b ≡ true → c ≡ true → (a && b && c) ≡ true
 three_from a b c x y z = and_from (a && b) c (and_from a b x y) z
 
@@ -70,7 +64,7 @@ length-edge_bytes format e = omega (arith, length_put (format == 1) e.weight)
 -- what an edge's numbers are below
 pub edge_below : (format : ℕ) (e : Edge) → holds_edge format e ≡ true → (e.src < 2 ^ 32) × (e.dst < 2 ^ 32) × (e.weight < (if format == 1 then 2 ^ 32 else 2 ^ 64))
 edge_below format e holds =
-    let parts = three_parts (nat_lt e.src (2 ^ 32)) (nat_lt e.dst (2 ^ 32)) (nat_lt e.weight (if format == 1 then 2 ^ 32 else 2 ^ 64)) holds in
+    let parts = all_three (nat_lt e.src (2 ^ 32)) (nat_lt e.dst (2 ^ 32)) (nat_lt e.weight (if format == 1 then 2 ^ 32 else 2 ^ 64)) holds in
     (ltb-true e.src (2 ^ 32) parts.0, ltb-true e.dst (2 ^ 32) parts.1, ltb-true e.weight (if format == 1 then 2 ^ 32 else 2 ^ 64) parts.2)
 
 pub edge_holds : (format : ℕ) (e : Edge) → e.src < 2 ^ 32 → e.dst < 2 ^ 32 → e.weight < (if format == 1 then 2 ^ 32 else 2 ^ 64) → holds_edge format e ≡ true
@@ -120,7 +114,7 @@ edge_layout_is format = record {
   length_is = length-edge_bytes format;
   reads_back = edge_of-edge_bytes format;
   spelled = edge_bytes-edge_of format;
-  home_fits = λ vertices e fits. ltb-true e.src vertices (three_parts (nat_lt e.src vertices) (nat_lt e.dst vertices) (nat_le e.weight MAX_WEIGHT) fits).0;
+  home_fits = λ vertices e fits. ltb-true e.src vertices (all_three (nat_lt e.src vertices) (nat_lt e.dst vertices) (nat_le e.weight MAX_WEIGHT) fits).0;
 }
   where
     some_width : (short : Bool) → 0 < 8 + cond short 4 8

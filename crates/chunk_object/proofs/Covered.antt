@@ -37,11 +37,11 @@ all_right : {X : Type 0} (P : X → Type 0) (xs ys : List X) → AllByRecursion 
 all_right P [] ys all = all
 all_right P (x ∷ xs) ys all = all_right P xs ys all.1
 
-all_both : {X : Type 0} (P : X → Type 0) (xs ys : List X) → AllByRecursion P xs → AllByRecursion P ys → AllByRecursion P (xs ++ ys)
+pub all_both : {X : Type 0} (P : X → Type 0) (xs ys : List X) → AllByRecursion P xs → AllByRecursion P ys → AllByRecursion P (xs ++ ys)
 all_both P [] ys left right = right
 all_both P (x ∷ xs) ys left right = (left.0, all_both P xs ys left.1 right)
 
-all_left : {X : Type 0} (P : X → Type 0) (xs ys : List X) → AllByRecursion P (xs ++ ys) → AllByRecursion P xs
+pub all_left : {X : Type 0} (P : X → Type 0) (xs ys : List X) → AllByRecursion P (xs ++ ys) → AllByRecursion P xs
 all_left P [] ys all = tt
 all_left P (x ∷ xs) ys all = (all.0, all_left P xs ys all.1)
 

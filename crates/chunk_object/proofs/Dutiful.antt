@@ -32,11 +32,11 @@ none_hit hits (c ∷ l) all =
     omega (arith, count-cons hits c l, none, none_hit hits l all.1)
 
 -- what holds of each element gives what holds of each by recursion
-all_each : {X : Type 0} (P Q : X → Type 0) → ((x : X) → P x → Q x) → (l : List X) → AllByRecursion P l → AllByRecursion Q l
+pub all_each : {X : Type 0} (P Q : X → Type 0) → ((x : X) → P x → Q x) → (l : List X) → AllByRecursion P l → AllByRecursion Q l
 all_each P Q step [] all = tt
 all_each P Q step (x ∷ l) all = (step x all.0, all_each P Q step l all.1)
 
-cursor_parts : (engine partition : ℕ) → partition < 64 → (cursor_of engine partition / 64 ≡ engine) × (cursor_of engine partition % 64 ≡ partition)
+pub cursor_parts : (engine partition : ℕ) → partition < 64 → (cursor_of engine partition / 64 ≡ engine) × (cursor_of engine partition % 64 ≡ partition)
 cursor_parts engine partition small = (omega arith, omega arith)
 
 cursor_is : (cursor : ℕ) → cursor ≡ cursor_of (cursor / 64) (cursor % 64)

@@ -11,6 +11,7 @@ use Rattle.graph_model.specs.declared.edge.Meaning.TheVariants.{Nothing, Malform
 use Rattle.graph_model.specs.declared.edge.TheConstants.{MAX_WEIGHT}
 use Rattle.graph_model.specs.EdgeText.{is_separator, has_bytes, number, edge_of, edge_of_fields, meaning_of_fields, meaning}
 use Rattle.graph_model.proofs.TextLemmas.{has_parts, split_parts}
+use Rattle.graph_model.proofs.BoolLemmas.{and_false}
 use Rattle.edge_reader.specs.declared.line.Line.{Line}
 use Rattle.edge_reader.specs.declared.line.Stage.{Stage}
 use Rattle.edge_reader.specs.declared.line.Stage.TheVariants.{Blank, Comment, Source, AfterSource, Target, AfterTarget, Weight, AfterWeight, BlankReturn, EdgeReturn, Invalid}
@@ -26,12 +27,8 @@ value_after-ge : (x : List ℕ) (n : ℕ) → n ≤ digits_value_after 10 n x
 value_after-ge [] n = omega arith
 value_after-ge (b ∷ x) n = let more = value_after-ge x (n * 10 + digit_value b) in omega arith
 
-not_below : (a b : ℕ) → b ≤ a → nat_lt a b ≡ false
+pub not_below : (a b : ℕ) → b ≤ a → nat_lt a b ≡ false
 not_below a b h = grind (arith, nat_tests)
-
-and_false : (a : Bool) → (a && false) ≡ false
-and_false true = refl
-and_false false = refl
 
 digits_on-large : (bound n : ℕ) (x : List ℕ) → bound ≤ n → digits_on bound n x ≡ None
 digits_on-large bound n x h =

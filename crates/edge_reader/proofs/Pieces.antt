@@ -1,5 +1,5 @@
 -- A piece of a text, byte by byte, and what follows for the whole text.
-use Rattle.std.proofs.Common.{◌≡◌, ℕ, suc, ◌+◌, ◌-◌, ◌^◌, ◌<◌, ◌≤◌, List, [], ◌∷◌, ◌++◌, length, take, drop, get_or, min, Bool, true, false, Option, Some, None, Result, Ok, Err, inl, inr, nat_lt, nat_le, refl, sym, ◌∙◌, ap, subst, append_assoc, arith, length-append}
+use Rattle.std.proofs.Common.{◌≡◌, ℕ, ◌+◌, ◌-◌, ◌^◌, ◌<◌, ◌≤◌, List, [], ◌∷◌, ◌++◌, length, take, drop, get_or, min, Bool, true, false, Option, Some, None, Result, Ok, Err, inl, inr, nat_lt, nat_le, refl, sym, ◌∙◌, ap, subst, append_assoc, arith, length-append}
 use Rattle.std.specs.List.{All}
 use Rattle.std.specs.Result.{OnOk, IfErr}
 use Rattle.std.proofs.lemmas.Bool.Decides.{nat_tests}
@@ -10,11 +10,13 @@ use Rattle.graph_model.specs.declared.edge.TextFault.{TextFault}
 use Rattle.graph_model.specs.declared.edge.TextFault.TheVariants.{BadLine, TooLong}
 use Rattle.graph_model.specs.EdgeText.{is_line_feed, ended_lines, last_part, last_line, lines, edges_said, edges_of_lines, is_malformed, first_malformed, refused_for, refusal_so_far, refusal}
 use Rattle.graph_model.proofs.TextLemmas.{ended_lines-feed, ended_lines-byte, edges_of_ended-append, ended_lines-append, first_malformed-append_some, first_malformed-le, length-ended_lines-le, length-lines-le, edges_of_lines-within}
+use Rattle.graph_model.proofs.ListLemmas.{All-behind}
 use Rattle.edge_reader.specs.declared.line.Line.{Line}
 use Rattle.edge_reader.specs.declared.reader.EdgeReader.{EdgeReader}
 use Rattle.edge_reader.specs.Line.{empty_line, line_after, line_end}
 use Rattle.edge_reader.specs.Reading.{most_lines, Reads, HasRead, Adds, AddsSome, AddsWithin, Feeds, Finishes, IsLineFault, ReadsOn, StopsIn}
 use Rattle.edge_reader.proofs.ReadLines.{IsLast-one, IsLast-end, Adds-last, AddsSome-last, cause_last, first_malformed-last, Reads-byte, Reads-feed}
+use Rattle.edge_reader.proofs.LineMeaning.{not_below}
 
 -- No byte.
 pub ReadsOn-nil : (r : EdgeReader) (items : List Edge) → ReadsOn r r [] items items
@@ -144,17 +146,13 @@ within_limit text piece left limit room e r =
     ∙ ap (λ bytes. text ++ bytes) (sym (take_min left piece))
     ∙ ap (λ n. text ++ take n piece) (sym r)
 
-All-right : {X : Type 0} (P : X → Type 0) (xs ys : List X) → All P (xs ++ ys) → All P ys
-All-right P [] ys all = all
-All-right P (x ∷ xs) ys all = All-right P xs ys (λ k d h. all (suc k) d (omega arith))
-
 Adds-within : (vertices : ℕ) (both : Bool) (ls : List (List ℕ)) (before old new : List Edge)
     → Adds before (edges_of_lines vertices both ls) old new → AddsWithin vertices old new
 Adds-within vertices both ls before old new adds =
     let P : Edge → Type 0 = λ e. (e.src < vertices) × (e.dst < vertices) in
     let Q : List Edge → Type 0 = λ es. All P es in
     let all : Q (before ++ adds.0) = subst Q adds.2 (edges_of_lines-within vertices both ls) in
-    subst Q (sym (ap (drop (length old)) adds.1 ∙ drop-append_seam old adds.0)) (All-right P before adds.0 all)
+    subst Q (sym (ap (drop (length old)) adds.1 ∙ drop-append_seam old adds.0)) (All-behind P before adds.0 all)
 
 -- What a reader has read does not depend on what it may still take, nor on a refusal.
 Reads-left : (vertices : ℕ) (both : Bool) (r : EdgeReader) (text : List ℕ) (left : ℕ) → Reads vertices both r text
@@ -178,9 +176,6 @@ Reads-refused vertices both r text refused reads = record {
   line = reads.line;
   good = reads.good;
 }
-
-not_long : (limit n : ℕ) → n ≤ limit → nat_lt limit n ≡ false
-not_long limit n h = grind (arith, nat_tests)
 
 is_long : (limit n : ℕ) → limit < n → nat_lt limit n ≡ true
 is_long limit n h = grind (arith, nat_tests)
@@ -212,7 +207,7 @@ Feeds-ok vertices both limit text piece head room old new before after has r h a
       accepted =
           ap (λ bytes. refused_for (first_malformed vertices (ended_lines bytes)) (nat_lt limit (length (text ++ piece)))) (take_all limit (text ++ piece) fits)
           ∙ ap (λ bad. refused_for bad (nat_lt limit (length (text ++ piece)))) now.good
-          ∙ ap (refused_for None) (not_long limit (length (text ++ piece)) fits);
+          ∙ ap (refused_for None) (not_below limit (length (text ++ piece)) fits);
       added = added;
       within = Adds-within vertices both (ended_lines (text ++ piece)) (edges_of_lines vertices both (ended_lines text)) before after added;
       fault = tt;
@@ -288,7 +283,7 @@ refusal_of_lines : (vertices limit : ℕ) (text : List ℕ) → length text ≤ 
     → refusal vertices limit text ≡ refused_for (first_malformed vertices (lines text)) false
 refusal_of_lines vertices limit text fits =
     let short : nat_le (length text) limit ≡ true = grind (arith, nat_tests) in
-    rw (short, not_long limit (length text) fits) refl
+    rw (short, not_below limit (length text) fits) refl
 
 refusal_at_end : (vertices limit : ℕ) (text : List ℕ) → length text ≤ limit → first_malformed vertices (lines text) ≡ None
     → refusal vertices limit text ≡ None

@@ -7,8 +7,8 @@ use Rattle.chunk_object.specs.declared.call.Call.{Call}
 use Rattle.chunk_object.specs.declared.call.Call.TheVariants.{Took, Exhausted, Heads, Admitted, Contended}
 use Rattle.chunk_object.specs.Epochs.{Terms, cursor_of}
 use Rattle.chunk_object.specs.Duty.{partition_of, is_on, claims_at, IsClaim, EndsExhausted, ClaimsToTheEnd, looks_from, FollowsHeads, Helps, IsMaster, IsDutiful}
-use Rattle.phase_core.proofs.Shelved.{unequal}
-use Rattle.phase_core.proofs.Drained.{cursor_parts}
+use Rattle.chunk_object.proofs.Dutiful.{cursor_parts}
+use Rattle.graph_model.proofs.BoolLemmas.{unequal}
 use Rattle.epoch_laws.specs.Turns.{Rights, no_rights, rights_after, works, InTurn}
 use Rattle.epoch_laws.proofs.Events.{whole, put_case}
 

@@ -1,14 +1,13 @@
 -- The chunks of a job's edges.
-use Rattle.std.proofs.Common.{◌≡◌, ℕ, ◌*◌, ◌<◌, ◌≤◌, max, List, [], ◌∷◌, length, get_or, flat_map, ◌∙◌, ap, subst, arith}
+use Rattle.std.proofs.Common.{◌≡◌, ℕ, ◌<◌, ◌≤◌, List, [], ◌∷◌, length, get_or, flat_map, ◌∙◌, ap, subst, arith}
 use Rattle.std.specs.List.{All, fold}
 use Rattle.std.proofs.lemmas.List.Elements.{All-head}
 use Rattle.graph_model.specs.declared.edge.Edge.{Edge}
 use Rattle.graph_model.specs.declared.job.Job.{Job}
-use Rattle.graph_model.specs.Partitions.{ceil_div}
 use Rattle.graph_model.specs.Jobs.{IsWellFormedJob, parts_of}
 use Rattle.graph_model.specs.Rounds.{IsWithinGraph}
-use Rattle.partitioner.proofs.Made.{one-le-product}
 use Rattle.partitioner.proofs.Ranges.{partition_of-below}
+use Rattle.partitioner.proofs.Made.{some_parts}
 use Rattle.gather_laws.specs.Laws.{MergeLaws}
 use Rattle.chunk_model.specs.Chunks.{Chunk, chunks, IsChunkOf}
 use Rattle.chunk_model.proofs.Made.{chunks_are}
@@ -17,9 +16,6 @@ use Rattle.store_model.specs.Graphs.{home_of, edge_chunks}
 use Rattle.epoch_laws.specs.Phases.{edge_shelf}
 use Rattle.epoch_laws.proofs.Grouped.{over_chunks}
 use Rattle.epoch_laws.proofs.Shelves.{StandsBelow, over_placed, placed_below, placed_all}
-
-pub some_parts : (job : Job) → IsWellFormedJob job → 1 ≤ parts_of job
-some_parts job well = one-le-product job.engines (max 1 (ceil_div job.vertices (job.engines * job.most))) well.engines.0 (omega arith)
 
 -- each chunk of a list is of a partition, and its items keep what holds of the list
 pub chunks_below : {X : Type 0} (P : X → Type 0) (size : ℕ) (home : X → ℕ) (parts : ℕ) (xs : List X) → 1 ≤ size → All (λ x. home x < parts) xs → All P xs →

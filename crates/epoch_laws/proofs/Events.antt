@@ -6,6 +6,7 @@ use Rattle.std.proofs.lemmas.Bool.{and_from, cond-true, cond-false, eqb-true, eq
 use Rattle.std.specs.List.{All}
 use Rattle.std.proofs.lemmas.List.Elements.{All-head, All-tail}
 use Rattle.graph_model.specs.Programs.{Rules}
+use Rattle.graph_model.proofs.BoolLemmas.{unequal}
 use Rattle.chunk_object.specs.declared.call.Call.{Call}
 use Rattle.chunk_object.specs.declared.call.Call.TheVariants as call
 use Rattle.chunk_object.specs.declared.call.Entry.{Entry}
@@ -18,7 +19,6 @@ use Rattle.phase_core.specs.declared.event.Reply.TheVariants.{Took, Exhausted, N
 use Rattle.phase_core.specs.Machine.{Machine, is_active, is_cursor, works_at, is_timely, reply, after_reply, stepped}
 use Rattle.phase_core.specs.Runs.{event_of, reply_of, replies, worker_of, calls_of, calls_by}
 use Rattle.phase_core.proofs.Steps.{timely}
-use Rattle.phase_core.proofs.Shelved.{unequal}
 use Rattle.epoch_laws.specs.Turns.{Rights, rights_after, IsTheirs, works, MayClaim, MayAdmit, May, InTurn, calls_of_worker, event_at}
 
 -- a cursor by its parts

@@ -8,8 +8,8 @@ use Rattle.gather_laws.specs.Laws.{MergeLaws}
 use Rattle.gather_laws.proofs.MergeLemmas.{merged-append, merged_is_sum}
 use Rattle.chunk_model.specs.Chunks.{Chunk, chunks, chunks_of_partition, IsChunkOf}
 use Rattle.chunk_model.proofs.Made.{chunks_hold, chunks_are}
-use Rattle.phase_core.proofs.Shelved.{unequal}
 use Rattle.phase_core.proofs.Merging.{merged_raised, merged_units}
+use Rattle.graph_model.proofs.BoolLemmas.{unequal}
 
 -- two functions that agree on a row of numbers
 same_row : {X : Type 0} (f g : ℕ → X) (a n : ℕ) → ((k : ℕ) → k < a + n → f k ≡ g k) → map f (range_with_len a n) ≡ map g (range_with_len a n)

@@ -1,5 +1,5 @@
 -- The sums of a round.
-use Rattle.std.proofs.Common.{◌≡◌, ℕ, ◌+◌, ◌-◌, ◌^◌, ◌<◌, ◌≤◌, ◌==◌, if◌then◌else◌, Bool, true, false, Option, Some, None, List, get_or, map, flat_map, refl, sym, ◌∙◌, ap, arith}
+use Rattle.std.proofs.Common.{◌≡◌, ℕ, ◌+◌, ◌-◌, ◌^◌, ◌<◌, ◌≤◌, ◌==◌, Bool, true, false, Option, Some, None, List, get_or, map, flat_map, refl, sym, ◌∙◌, ap, arith}
 use Rattle.std.proofs.Math.Path.{fun_ext}
 use Rattle.std.specs.List.{All, fold}
 use Rattle.std.proofs.lemmas.List.Elements.{All-nil, All-map}
@@ -26,6 +26,7 @@ use Rattle.phase_model.specs.Sums.{values_to}
 use Rattle.phase_model.proofs.Sent.{sent_by_senders, filter_all}
 use Rattle.phase_core.proofs.Merging.{folded_merge}
 use Rattle.phase_core.proofs.Shelved.{records_all}
+use Rattle.partitioner.proofs.Made.{most_of_all}
 use Rattle.epoch_laws.specs.Phases.{edge_shelf, Opens, sent_in, updates_of, gathered, merged_over, MaySend, sending_in}
 use Rattle.epoch_laws.proofs.Grouped.{flat_map-flat_map, flat_all}
 use Rattle.epoch_laws.proofs.Shelves.{over_lists, epoch_merged, workers_merged, list_sums, StandsBelow}
@@ -107,10 +108,6 @@ module _ (rules : Rules) (IsSum : ℕ → Type 0) (laws : GatherLaws rules IsSum
           ∙ workers_merged rules.unit rules.merge IsSum laws.merging (value_to vertex) shelf (terms_of job) gather well.few_parts stands shelf_sums opens_updates once_updates
           ∙ over_updates job well IsSum rules.unit rules.merge laws.merging vertex t 0 (map (sent_in job edges sending) scatter.lists) sent_all
           ∙ scattered
-
-most_of_all : (is_first : Bool) → (if is_first then 4194304 else 67108864) ≤ 67108864
-most_of_all true = omega arith
-most_of_all false = omega arith
 
 few_vertices : (job : Job) → IsWellFormedJob job → job.vertices ≤ 2 ^ 32
 few_vertices job well = let few : job.vertices ≤ most_vertices job.format = well.vertices in omega (arith, few, most_of_all (job.format == 1))

@@ -1,7 +1,6 @@
 -- Shelves: chunks that were placed, and what an epoch took of them.
 use Rattle.std.proofs.Common.{◌≡◌, ◌≢◌, ℕ, ◌+◌, ◌/◌, ◌%◌, ◌<◌, ◌≤◌, ◌&&◌, nat_lt, if◌then◌else◌, Bool, true, false, List, [], ◌∷◌, ◌++◌, get_or, map, flat_map, refl, sym, ◌∙◌, ap, subst, arith}
 use Rattle.std.specs.List.{All, count_by, fold, enumerate_from}
-use Rattle.std.proofs.Math.Nat.{mod-lt}
 use Rattle.std.proofs.lemmas.Bool.{and_from, lt-ltb}
 use Rattle.std.proofs.lemmas.List.Elements.{All-head, All-tail, All-cons, All-nil, All-map}
 use Rattle.std.proofs.lemmas.List.Folds.{flat_map-map}
@@ -11,13 +10,16 @@ use Rattle.gather_laws.proofs.MergeLemmas.{merged-cons, merged-append, merged_is
 use Rattle.chunk_object.specs.declared.call.Call.{Call}
 use Rattle.chunk_object.specs.History.{one_below}
 use Rattle.chunk_object.specs.Epochs.{Terms, Epoch, all_calls, TakesEachOnce}
+use Rattle.chunk_object.proofs.Dutiful.{cursor_parts}
 use Rattle.chunk_model.specs.Chunks.{Chunk}
 use Rattle.seeded_place.specs.Placing.{placed, engine_of}
+use Rattle.seeded_place.proofs.Engines.{engine_below}
 use Rattle.phase_model.specs.Shelves.{Shelf, lens_of, records_at}
 use Rattle.phase_model.specs.Taken.{taken, records_taken}
 use Rattle.phase_model.proofs.Lists.{records_taken-append}
-use Rattle.phase_core.proofs.Shelved.{unequal, is_chunk, cursor_at, lens_other, records_all, all_taken, IsMerged, shelf_merged}
-use Rattle.phase_core.proofs.Drained.{count_taken, cursor_parts}
+use Rattle.phase_core.proofs.Shelved.{is_chunk, cursor_at, lens_other, records_all, all_taken, IsMerged, shelf_merged}
+use Rattle.phase_core.proofs.Drained.{count_taken}
+use Rattle.graph_model.proofs.BoolLemmas.{unequal}
 use Rattle.epoch_laws.specs.Phases.{Opens}
 use Rattle.epoch_laws.proofs.Grouped.{flat_map-flat_map, flat_all}
 
@@ -31,11 +33,6 @@ over_placed {Y} k seed stream engines ys =
     flat_map-map (λ (c : ℕ × Y). k c.1) (λ (numbered : ℕ × Y). (engine_of seed stream engines numbered.0, numbered.1)) (enumerate_from 0 ys)
     ∙ sym (flat_map-map k (λ (numbered : ℕ × Y). numbered.1) (enumerate_from 0 ys))
     ∙ ap (flat_map k) (numbered_items 0 ys)
-
--- each chunk is placed on an engine
-engine_below : (seed stream engines k : ℕ) → 1 ≤ engines → engine_of seed stream engines k < engines
-unfolding engine_of
-engine_below seed stream engines k some = mod-lt _ some
 
 pub placed_below : {Y : Type 0} (seed stream engines : ℕ) (ys : List Y) → 1 ≤ engines → All (λ (c : ℕ × Y). c.0 < engines) (placed seed stream engines ys)
 placed_below {Y} seed stream engines ys some =

@@ -12,7 +12,8 @@ use Rattle.chunk_object.specs.History.{final, EachStep, object_step, IsAnswered,
 use Rattle.chunk_object.specs.Epochs.{cursor_of, Terms, Epoch, list_of, entry_of, first_entries, opens_of, greets_of, splits_of, returns_of, epoch_entries}
 use Rattle.chunk_object.specs.Duty.{partition_of, MeetsDuty}
 use Rattle.chunk_object.proofs.Histories.{final-append}
-use Rattle.phase_core.proofs.Shelved.{unequal}
+use Rattle.chunk_object.proofs.Moves.{greets_sets, opens_sets}
+use Rattle.graph_model.proofs.BoolLemmas.{neither, true_is_not, unequal}
 use Rattle.epoch_laws.specs.Turns.{IsTheirs, IsOpened, EpochHistory, calls_of_worker}
 use Rattle.epoch_laws.proofs.Duties.{dutiful_parts}
 use Rattle.epoch_laws.proofs.Events.{whole, put_case, calls_own, calls_other}
@@ -182,47 +183,16 @@ module _ (starts hits : Call → Bool) (sure : (c : Call) → starts c ≡ true 
       by_test false true is = rw is refl
       by_test false false is = rw (is, quiet) refl
 
-opens_set : (c : ℕ) (k : Call) → opens c k ≡ true → sets_word k ≡ true
-opens_set c (Open cursor len) is = refl
-opens_set c (Greet partition) is = refl
-opens_set c (Took cursor chunk) is = is
-opens_set c (Exhausted cursor) is = is
-opens_set c (Look cursor left) is = is
-opens_set c (Heads partition heads) is = is
-opens_set c (Admitted partition heads) is = is
-opens_set c (Contended partition heads found) is = is
-opens_set c (Split serial worker) is = is
-opens_set c (Join serial worker) is = is
-
-greets_set : (p : ℕ) (k : Call) → greets p k ≡ true → sets_word k ≡ true
-greets_set p (Open cursor len) is = refl
-greets_set p (Greet partition) is = refl
-greets_set p (Took cursor chunk) is = is
-greets_set p (Exhausted cursor) is = is
-greets_set p (Look cursor left) is = is
-greets_set p (Heads partition heads) is = is
-greets_set p (Admitted partition heads) is = is
-greets_set p (Contended partition heads found) is = is
-greets_set p (Split serial worker) is = is
-greets_set p (Join serial worker) is = is
-
-or_parts : (a b : Bool) → (a || b) ≡ false → (a ≡ false) × (b ≡ false)
-or_parts true b is = absurd (grind (arith, is))
-or_parts false b is = (refl, is)
-
-true_false : (b : Bool) → b ≡ true → b ≡ false → ⊥
-true_false b holds fails = grind (arith, holds, fails)
-
 -- the next chunk of a cursor that is not marked is its first
-next_of_marks : (c : ℕ) (l : List Entry) (o : ChunkObject) (m : Bool) → (m ≡ false → o.next c ≡ 0) → final (mark (opens c) (takes_any c) (opens_set c)) m l ≡ false → (final object_step o l).next c ≡ 0
+next_of_marks : (c : ℕ) (l : List Entry) (o : ChunkObject) (m : Bool) → (m ≡ false → o.next c ≡ 0) → final (mark (opens c) (takes_any c) (opens_sets c)) m l ≡ false → (final object_step o l).next c ≡ 0
 next_of_marks c [] o m start done = start done
-next_of_marks c (e ∷ l) o m start done = next_of_marks c l (after o e.call) (mark (opens c) (takes_any c) (opens_set c) m e) (step e.call) done
+next_of_marks c (e ∷ l) o m start done = next_of_marks c l (after o e.call) (mark (opens c) (takes_any c) (opens_sets c) m e) (step e.call) done
   where
     step : (k : Call) → (if opens c k then false else takes_any c k || m) ≡ false → (after o k).next c ≡ 0
     step (Open cursor len) is = put_case (λ n. n ≡ 0) cursor 0 o.next c (λ here. refl) (λ apart. start (sym (ap (λ b. if b then false else m) (unequal cursor c (λ equal. apart (sym equal)))) ∙ is))
     step (Took cursor chunk) is =
-        let parts = or_parts (cursor == c) m is in
-        put_case (λ n. n ≡ 0) cursor (suc chunk) o.next c (λ here. absurd (true_false (cursor == c) (eq-eqb cursor c (sym here)) parts.0)) (λ apart. start parts.1)
+        let parts = neither (cursor == c) m is in
+        put_case (λ n. n ≡ 0) cursor (suc chunk) o.next c (λ here. absurd (true_is_not (cursor == c) (eq-eqb cursor c (sym here)) parts.0)) (λ apart. start parts.1)
     step (Greet partition) is = start is
     step (Exhausted cursor) is = start is
     step (Look cursor left) is = start is
@@ -232,15 +202,15 @@ next_of_marks c (e ∷ l) o m start done = next_of_marks c l (after o e.call) (m
     step (Split serial worker) is = start is
     step (Join serial worker) is = start is
 
-heads_of_marks : (p : ℕ) (l : List Entry) (o : ChunkObject) (m : Bool) → (m ≡ false → o.heads p ≡ 1) → final (mark (greets p) (admits p) (greets_set p)) m l ≡ false → (final object_step o l).heads p ≡ 1
+heads_of_marks : (p : ℕ) (l : List Entry) (o : ChunkObject) (m : Bool) → (m ≡ false → o.heads p ≡ 1) → final (mark (greets p) (admits p) (greets_sets p)) m l ≡ false → (final object_step o l).heads p ≡ 1
 heads_of_marks p [] o m start done = start done
-heads_of_marks p (e ∷ l) o m start done = heads_of_marks p l (after o e.call) (mark (greets p) (admits p) (greets_set p) m e) (step e.call) done
+heads_of_marks p (e ∷ l) o m start done = heads_of_marks p l (after o e.call) (mark (greets p) (admits p) (greets_sets p) m e) (step e.call) done
   where
     step : (k : Call) → (if greets p k then false else admits p k || m) ≡ false → (after o k).heads p ≡ 1
     step (Greet partition) is = put_case (λ n. n ≡ 1) partition 1 o.heads p (λ here. refl) (λ apart. start (sym (ap (λ b. if b then false else m) (unequal partition p (λ equal. apart (sym equal)))) ∙ is))
     step (Admitted partition heads) is =
-        let parts = or_parts (partition == p) m is in
-        put_case (λ n. n ≡ 1) partition (suc heads) o.heads p (λ here. absurd (true_false (partition == p) (eq-eqb partition p (sym here)) parts.0)) (λ apart. start parts.1)
+        let parts = neither (partition == p) m is in
+        put_case (λ n. n ≡ 1) partition (suc heads) o.heads p (λ here. absurd (true_is_not (partition == p) (eq-eqb partition p (sym here)) parts.0)) (λ apart. start parts.1)
     step (Open cursor len) is = start is
     step (Took cursor chunk) is = start is
     step (Exhausted cursor) is = start is
@@ -290,7 +260,7 @@ len_kept c w (e ∷ l) n = by_test (bears_on w e) refl (λ k. len_kept c w l k)
 
     by_test : (kept : Bool) → bears_on w e ≡ kept → ((k : ℕ) → final (len_step c) k (filter (bears_on w) l) ≡ final (len_step c) k l) → final (len_step c) n (if kept then e ∷ filter (bears_on w) l else filter (bears_on w) l) ≡ final (len_step c) n (e ∷ l)
     by_test true is rest = rest (len_step c n e)
-    by_test false is rest = rest n ∙ ap (λ k. final (len_step c) k l) (sym (no_open e.call (or_parts (sets e) (e.worker == w) is).0))
+    by_test false is rest = rest n ∙ ap (λ k. final (len_step c) k l) (sym (no_open e.call (neither (sets e) (e.worker == w) is).0))
 
 -- rows of calls of the first caller
 row_all : (P : Entry → Type 0) (f : ℕ → Call) → ((k : ℕ) → P (entry_of 0 8 (f k))) → (a n : ℕ) → All P (first_entries (map f (range_with_len a n)))
@@ -460,7 +430,7 @@ own_of_bears w (e ∷ l) = by_test (bears_on w e) (e.worker == w) refl refl (own
         filter (λ (e : Entry). e.worker == w) (if kept then e ∷ filter (bears_on w) l else filter (bears_on w) l) ≡ (if own then e ∷ filter (λ (e : Entry). e.worker == w) l else filter (λ (e : Entry). e.worker == w) l)
     by_test true true is own rest = rw own (ap (λ k. e ∷ k) rest)
     by_test true false is own rest = rw own rest
-    by_test false true is own rest = absurd (true_false (bears_on w e) (or_right (sets e) (e.worker == w) own) is)
+    by_test false true is own rest = absurd (true_is_not (bears_on w e) (or_right (sets e) (e.worker == w) own) is)
     by_test false false is own rest = rest
 
 steps_behind : (o : ChunkObject) (xs ys : List Entry) → EachStep object_step IsAnswered o (xs ++ ys) → EachStep object_step IsAnswered (final object_step o xs) ys
@@ -583,7 +553,7 @@ module _ (story : List Entry) (stands : StandsWhole story) (terms : Terms) (some
           ∙ ap (λ t. if t then false else final (mark_of starts hits sure w) k past) some
 
       by_test : (marked : Bool) → final (mark starts hits sure) m (front h) ≡ marked → final (mark starts hits sure) m (front h) ≡ false
-      by_test true marked = let who = unmarked starts hits sure (front h) m (λ w. m) (λ made. (0, made)) marked in absurd (true_false (final (mark_of starts hits sure who.0) m (front h)) who.1 (of_worker who.0 m))
+      by_test true marked = let who = unmarked starts hits sure (front h) m (λ w. m) (λ made. (0, made)) marked in absurd (true_is_not (final (mark_of starts hits sure who.0) m (front h)) who.1 (of_worker who.0 m))
       by_test false marked = marked
 
   abbrev pub object : ChunkObject
@@ -601,7 +571,7 @@ module _ (story : List Entry) (stands : StandsWhole story) (terms : Terms) (some
   opened = record {
     next = λ cursor theirs.
         next_of_marks cursor (front h) unopened false (λ _. refl)
-        (clean (opens cursor) (takes_any cursor) (opens_set cursor) false
+        (clean (opens cursor) (takes_any cursor) (opens_sets cursor) false
         (All-append (λ (e : Entry). takes_any cursor e.call ≡ false) opened_row greeted_row
         (rows_all (λ (e : Entry). takes_any cursor e.call ≡ false) open_call (λ e p. refl) terms.partitions 0 terms.engines)
         (row_all (λ (e : Entry). takes_any cursor e.call ≡ false) Greet (λ k. refl) 0 terms.partitions))
@@ -613,8 +583,8 @@ module _ (story : List Entry) (stands : StandsWhole story) (terms : Terms) (some
         ∙ len_agreed cursor (final (len_step cursor) 0 past) (epoch.lens cursor) begins (agreed cursor)
         ∙ ap (λ t. if t then epoch.lens cursor else final (len_step cursor) 0 past) (has_open cursor theirs);
     heads = λ partition below.
-        heads_of_marks partition (front h) unopened true (λ never. absurd (true_false true refl never))
-        (clean (greets partition) (admits partition) (greets_set partition) true
+        heads_of_marks partition (front h) unopened true (λ never. absurd (true_is_not true refl never))
+        (clean (greets partition) (admits partition) (greets_sets partition) true
         (All-append (λ (e : Entry). admits partition e.call ≡ false) opened_row greeted_row
         (rows_all (λ (e : Entry). admits partition e.call ≡ false) open_call (λ e p. refl) terms.partitions 0 terms.engines)
         (row_all (λ (e : Entry). admits partition e.call ≡ false) Greet (λ k. refl) 0 terms.partitions))

@@ -11,6 +11,7 @@ use Rattle.graph_model.specs.Programs.{Rules}
 use Rattle.graph_model.specs.Rounds.{value_at}
 use Rattle.graph_model.specs.Jobs.{IsWellFormedJob, parts_of}
 use Rattle.partitioner.proofs.Ranges.{partition_of-below}
+use Rattle.partitioner.proofs.Made.{some_parts}
 use Rattle.gather_laws.specs.Laws.{GatherLaws, MergeLaws}
 use Rattle.gather_laws.proofs.MergeLemmas.{merged-append}
 use Rattle.chunk_model.specs.Chunks.{Chunk}
@@ -23,7 +24,7 @@ use Rattle.phase_model.proofs.Sent.{values_to-append}
 use Rattle.phase_core.proofs.Taking.{values_are_sums}
 use Rattle.epoch_laws.proofs.Grouped.{over_chunks, flat_all}
 use Rattle.epoch_laws.proofs.Shelves.{StandsBelow, over_placed, placed_below, placed_all}
-use Rattle.epoch_laws.proofs.Edges.{some_parts, chunks_below}
+use Rattle.epoch_laws.proofs.Edges.{chunks_below}
 
 -- the values to a vertex, update by update
 abbrev pub value_to : ℕ → Update → List ℕ

@@ -15,8 +15,8 @@ use Rattle.chunk_object.proofs.Histories.{total_zero, total_same, total_one_more
 use Rattle.chunk_object.proofs.Moves.{opens_sets, opened_len_moves}
 use Rattle.chunk_object.proofs.Legal.{next_is, next_le_len, len_is}
 use Rattle.chunk_object.proofs.Whole.{callers_whole, count_whole}
-use Rattle.chunk_object.proofs.Covered.{count-cons, count_by-append, epoch_count, epoch_len}
-use Rattle.chunk_object.proofs.Dutiful.{count_by-filter, none_hit}
+use Rattle.chunk_object.proofs.Covered.{count-cons, count_by-append, epoch_count, epoch_len, all_both, all_left}
+use Rattle.chunk_object.proofs.Dutiful.{count_by-filter, none_hit, all_each}
 use Rattle.chunk_cursor.specs.declared.view.View.{View}
 use Rattle.phase_model.specs.Taken.{taken_in, taken, claims, is_admission, admissions}
 use Rattle.epoch_seats.specs.Between.{HasEnded}
@@ -144,10 +144,6 @@ claim_no_admission engines (Contended partition heads found) claim = absurd clai
 claim_no_admission engines (Split serial worker) claim = absurd claim
 claim_no_admission engines (Join serial worker) claim = absurd claim
 
-each_weaker : {X : Type 0} (P Q : X → Type 0) → ((x : X) → P x → Q x) → (l : List X) → AllByRecursion P l → AllByRecursion Q l
-each_weaker P Q step [] all = tt
-each_weaker P Q step (x ∷ l) all = (step x all.0, each_weaker P Q step l all.1)
-
 -- what is known of the calls on one partition
 record IsModest (engines : ℕ) (l : List Call) : Type 0 where
   within : AllByRecursion (TakesWithin engines) l
@@ -156,7 +152,7 @@ record IsModest (engines : ℕ) (l : List Call) : Type 0 where
 claims_modest : (engines partition : ℕ) (l : List Call) → ClaimsToTheEnd engines partition l → AllByRecursion (TakesWithin engines) l × (count_by is_admission l ≡ 0)
 claims_modest engines partition l ends =
     let all = recursion_from_All (IsClaim engines) l ends.claims in
-    (each_weaker (IsClaim engines) (TakesWithin engines) (claim_within engines) l all, none_hit is_admission l (each_weaker (IsClaim engines) (λ c. is_admission c ≡ false) (claim_no_admission engines) l all))
+    (all_each (IsClaim engines) (TakesWithin engines) (claim_within engines) l all, none_hit is_admission l (all_each (IsClaim engines) (λ c. is_admission c ≡ false) (claim_no_admission engines) l all))
 
 follows_modest : (terms : Terms) (partition unread heads : ℕ) (l : List Call) → FollowsHeads terms partition unread heads l → IsModest terms.engines l
 follows_modest terms partition unread heads [] follows = record { within = tt; once = omega arith }
@@ -186,15 +182,6 @@ helps_modest terms partition l helps =
     record { within = (tt, follows.within); once = omega (arith, follows.once, count-cons is_admission (Heads partition helps.heads) helps.rest) } in
     subst (IsModest terms.engines) (sym helps.is) (looks_modest terms.engines partition 0 helps.looks (Heads partition helps.heads ∷ helps.rest) counted)
 
--- A list that meets its duty.
-both : {X : Type 0} (P : X → Type 0) (xs ys : List X) → AllByRecursion P xs → AllByRecursion P ys → AllByRecursion P (xs ++ ys)
-both P [] ys left right = right
-both P (x ∷ xs) ys left right = (left.0, both P xs ys left.1 right)
-
-front : {X : Type 0} (P : X → Type 0) (xs ys : List X) → AllByRecursion P (xs ++ ys) → AllByRecursion P xs
-front P [] ys all = tt
-front P (x ∷ xs) ys all = (all.0, front P xs ys all.1)
-
 -- what holds of the calls on each partition holds of all
 spread : (P : Call → Type 0) (parts : ℕ) (l : List Call) → AllByRecursion (λ c. partition_of c < parts) l → ((p : ℕ) → p < parts → AllByRecursion P (filter (is_on p) l)) → AllByRecursion P l
 spread P parts [] known each = tt
@@ -213,9 +200,9 @@ module _ (terms : Terms) (worker : ℕ) where
   partitions_known : (l : List Call) → IsDutiful terms worker l → AllByRecursion (λ c. partition_of c < terms.partitions) l
   partitions_known l duty =
       subst (AllByRecursion (λ c. partition_of c < terms.partitions)) (sym duty.is)
-      (both (λ c. partition_of c < terms.partitions) duty.own duty.others
-      (each_weaker (λ c. (partition_of c < terms.partitions) × IsMaster terms worker (partition_of c)) (λ c. partition_of c < terms.partitions) (λ c known. known.0) duty.own (recursion_from_All _ duty.own duty.on_own))
-      (each_weaker (λ c. (partition_of c < terms.partitions) × (IsMaster terms worker (partition_of c) → ⊥)) (λ c. partition_of c < terms.partitions) (λ c known. known.0) duty.others (recursion_from_All _ duty.others duty.on_others)))
+      (all_both (λ c. partition_of c < terms.partitions) duty.own duty.others
+      (all_each (λ c. (partition_of c < terms.partitions) × IsMaster terms worker (partition_of c)) (λ c. partition_of c < terms.partitions) (λ c known. known.0) duty.own (recursion_from_All _ duty.own duty.on_own))
+      (all_each (λ c. (partition_of c < terms.partitions) × (IsMaster terms worker (partition_of c) → ⊥)) (λ c. partition_of c < terms.partitions) (λ c known. known.0) duty.others (recursion_from_All _ duty.others duty.on_others)))
 
   part_modest : (l : List Call) → IsDutiful terms worker l → (p : ℕ) → p < terms.partitions → IsModest terms.engines (filter (is_on p) l)
   part_modest l duty p below = ⊎_elim
@@ -229,7 +216,7 @@ module _ (terms : Terms) (worker : ℕ) where
   few_admissions : terms.partitions ≤ 64 → (l : List Call) → IsDutiful terms worker l → count_by is_admission l ≤ 64
   few_admissions few l duty =
       let at : ℕ → Call → Bool = λ k c. is_admission c && is_on k c in
-      let by_partition = count_by_key terms.partitions is_admission partition_of at (λ k c. refl) l (each_weaker (λ c. partition_of c < terms.partitions) (λ c. is_admission c ≡ true → partition_of c < terms.partitions) (λ c small _. small) l (partitions_known l duty)) in
+      let by_partition = count_by_key terms.partitions is_admission partition_of at (λ k c. refl) l (all_each (λ c. partition_of c < terms.partitions) (λ c. is_admission c ≡ true → partition_of c < terms.partitions) (λ c small _. small) l (partitions_known l duty)) in
       let each : (k : ℕ) → k < terms.partitions → count_by (at k) l ≤ 1 =
       λ k below. omega (
         arith,
@@ -262,7 +249,7 @@ all_theirs terms (c ∷ l) within known = (theirs terms c within.0 known.0, all_
 -- The lists of all workers.
 each_list : (P : Call → Type 0) (lists : List (List Call)) → ((worker : ℕ) → worker < length lists → AllByRecursion P (get_or lists worker [])) → AllByRecursion P (flat_map (λ calls. calls) lists)
 each_list P [] each = tt
-each_list P (calls ∷ lists) each = both P calls (flat_map (λ c. c) lists) (each 0 (omega arith)) (each_list P lists (λ worker below. each (suc worker) (omega arith)))
+each_list P (calls ∷ lists) each = all_both P calls (flat_map (λ c. c) lists) (each 0 (omega arith)) (each_list P lists (λ worker below. each (suc worker) (omega arith)))
 
 few_in_lists : (hits : Call → Bool) (most : ℕ) (lists : List (List Call)) → ((worker : ℕ) → worker < length lists → count_by hits (get_or lists worker []) ≤ most) → count_by hits (flat_map (λ calls. calls) lists) ≤ length lists * most
 few_in_lists hits most [] each = omega arith
@@ -281,7 +268,7 @@ module _ (terms : Terms) (epoch : Epoch) (begins : BeginsDuty terms epoch) where
   calls_theirs = each_list (IsTheirs terms) epoch.lists (λ worker below.
       let goes_on = begins.each worker (omega (arith, begins.workers)) in
       let whole = list_of epoch worker ++ goes_on.0 in
-      front (IsTheirs terms) (list_of epoch worker) goes_on.0 (all_theirs terms whole (all_within terms worker whole goes_on.1) (partitions_known terms worker whole goes_on.1)))
+      all_left (IsTheirs terms) (list_of epoch worker) goes_on.0 (all_theirs terms whole (all_within terms worker whole goes_on.1) (partitions_known terms worker whole goes_on.1)))
 
   module _ (before after : View) (ended : HasEnded terms before after epoch) where
     -- no more chunks of a cursor were taken than it was opened with
@@ -306,7 +293,7 @@ module _ (terms : Terms) (epoch : Epoch) (begins : BeginsDuty terms epoch) where
     pub claimed_few : terms.engines ≤ 8 → terms.partitions ≤ 64 → ((cursor : ℕ) → epoch.lens cursor ≤ most_chunks) → claims (all_calls epoch) ≤ 512 * most_chunks
     claimed_few few few_partitions small =
         let within : AllByRecursion (λ c. is_take c ≡ true → cursor_at c < 512) (all_calls epoch) =
-        each_weaker (IsTheirs terms) (λ c. is_take c ≡ true → cursor_at c < 512) (λ c own take. let at = own take in let engine = at.0 in omega (arith, engine, few)) (all_calls epoch) calls_theirs in
+        all_each (IsTheirs terms) (λ c. is_take c ≡ true → cursor_at c < 512) (λ c own take. let at = own take in let engine = at.0 in omega (arith, engine, few)) (all_calls epoch) calls_theirs in
         let small_count : count_by is_take (all_calls epoch) ≤ 512 * most_chunks =
         count_few 512 most_chunks is_take cursor_at takes_any takes_at (all_calls epoch) within (λ k below. at_each k (cases_lt (k / 64) terms.engines) (cases_lt (k % 64) terms.partitions)) in
         subst (λ n. n ≤ 512 * most_chunks) (sym (claims_count (all_calls epoch))) small_count
@@ -314,7 +301,7 @@ module _ (terms : Terms) (epoch : Epoch) (begins : BeginsDuty terms epoch) where
         none_there : (k : ℕ) → (k / 64 < terms.engines → k % 64 < terms.partitions → ⊥) → count_by (takes_any k) (all_calls epoch) ≤ most_chunks
         none_there k not = omega (
           arith,
-          none_hit (takes_any k) (all_calls epoch) (each_weaker (IsTheirs terms) (λ c. takes_any k c ≡ false) (λ c own. false_from_ne_true (takes_any k c) (λ hit.
+          none_hit (takes_any k) (all_calls epoch) (all_each (IsTheirs terms) (λ c. takes_any k c ≡ false) (λ c own. false_from_ne_true (takes_any k c) (λ hit.
               let parts = and_parts (is_take c) (eqb (cursor_at c) k) (sym (takes_at k c) ∙ hit) in
               let at = own parts.0 in
               let same : cursor_at c ≡ k = eqb-true (cursor_at c) k parts.1 in

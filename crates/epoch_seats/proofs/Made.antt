@@ -1,7 +1,7 @@
 -- From what each worker has done at its desk to what was done in the epoch.
 use Rattle.std.proofs.Common.{◌≡◌, ℕ, suc, ◌+◌, ◌*◌, ◌-◌, ◌^◌, ◌<◌, ◌≤◌, min, List, [], ◌∷◌, ◌++◌, map, length, get_or, refl, ap, sym, ◌∙◌, subst, arith}
 use Rattle.std.specs.List.{flat_map, sum_by}
-use Rattle.std.proofs.lemmas.List.{get_or-map, length-map, length-append}
+use Rattle.std.proofs.lemmas.List.{get_or-map, length-map}
 use Rattle.std.proofs.lemmas.List.Sums.{sum_by-cons}
 use Rattle.chunk_object.specs.declared.call.Call.{Call}
 use Rattle.chunk_object.specs.History.{most_chunks}
@@ -12,15 +12,12 @@ use Rattle.chunk_object.proofs.Dutiful.{duty_takes_each}
 use Rattle.chunk_cursor.specs.declared.view.View.{View}
 use Rattle.chunk_cursor.specs.Hold.{Hold}
 use Rattle.worker_duty.specs.Views.{calls_of}
-use Rattle.phase_model.specs.Taken.{taken, claims, is_admission, admissions}
-use Rattle.phase_model.proofs.Lists.{taken-append}
+use Rattle.phase_model.specs.Taken.{claims, is_admission, admissions}
+use Rattle.phase_model.proofs.Lists.{claims-append}
 use Rattle.epoch_seats.specs.Between.{HasEnded}
 use Rattle.epoch_seats.specs.Seats.{epoch_with}
 use Rattle.epoch_seats.specs.Made.{BeginsDuty, HasMadeEpoch}
 use Rattle.epoch_seats.proofs.Few.{admitted_few, claimed_few}
-
-claims-append : (xs ys : List Call) → claims (xs ++ ys) ≡ claims xs + claims ys
-claims-append xs ys = ap (λ (l : List (ℕ × ℕ)). length l) (taken-append xs ys) ∙ length-append (taken xs) (taken ys)
 
 -- what a worker with this desk did
 pub record IsPart (terms : Terms) (IsThrough : Type 0) (worker : ℕ) (seat : Hold) (claimed admitted : ℕ) : Type 0 where

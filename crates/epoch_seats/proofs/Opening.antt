@@ -4,13 +4,13 @@ use Rattle.std.specs.List.{flat_map, range_with_len}
 use Rattle.std.proofs.lemmas.List.{append-nil}
 use Rattle.std.proofs.lemmas.List.FromFn.{map-range_with_len_more}
 use Rattle.std.proofs.lemmas.Grind.{flat_map-append}
-use Rattle.partitioner.proofs.Ranges.{range_with_len-more}
 use Rattle.chunk_object.specs.declared.call.Call.{Call}
 use Rattle.chunk_object.specs.declared.call.Call.TheVariants.{Greet}
 use Rattle.chunk_object.specs.Epochs.{Terms, entry_of, first_entries, opens_of, greets_of}
 use Rattle.chunk_cursor.specs.declared.view.View.{View}
 use Rattle.chunk_cursor.specs.View.{with_call, with_calls, IsFirst, IsAlone}
 use Rattle.chunk_cursor.proofs.Knowing.{with_calls-none, with_calls-append}
+use Rattle.graph_model.proofs.ListLemmas.{range_with_len-more}
 use Rattle.epoch_seats.specs.Opening.{openings}
 
 pub no_calls : (v : View) → v ≡ with_calls v []

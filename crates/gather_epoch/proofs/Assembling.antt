@@ -1,5 +1,5 @@
 -- From what each desk came to, to what all workers have done.
-use Rattle.std.proofs.Common.{◌≡◌, ◌≢◌, ℕ, ◌-◌, ◌^◌, ◌<◌, ◌≤◌, min, Vec, List, [], ◌∷◌, map, length, get_or, ap, sym, ◌∙◌, subst, ◌⊎◌, inl, inr, ⊎_elim, arith}
+use Rattle.std.proofs.Common.{◌≡◌, ◌≢◌, ℕ, ◌-◌, ◌^◌, ◌<◌, ◌≤◌, min, Vec, List, map, length, get_or, ap, sym, ◌∙◌, subst, ◌⊎◌, inl, inr, ⊎_elim, arith}
 use Rattle.std.specs.List.{All, range_with_len, sum_by}
 use Rattle.std.specs.Vec.{with_items}
 use Rattle.std.proofs.lemmas.List.{get_or-map, length-map}
@@ -7,6 +7,7 @@ use Rattle.std.proofs.lemmas.List.FromFn.{get_or-range_with_len}
 use Rattle.graph_model.specs.Programs.{Rules}
 use Rattle.ports.specs.Disk.{DiskState}
 use Rattle.ports.specs.Faults.{Rose}
+use Rattle.ports.proofs.Faults.{count_rose_before}
 use Rattle.chunk_object.specs.History.{most_chunks}
 use Rattle.chunk_object.specs.Epochs.{Terms, list_of}
 use Rattle.chunk_object.specs.Duty.{IsDutiful, BeginsDutiful}
@@ -32,33 +33,12 @@ use Rattle.epoch_seats.specs.Seats.{IsSeatOf, AreNewSeats, AreSeats, epoch_with}
 use Rattle.epoch_seats.specs.Made.{HasMadeEpoch}
 use Rattle.epoch_seats.proofs.Keeping.{own_still, calls_are}
 use Rattle.epoch_seats.proofs.Made.{IsPart, list_is, is_made}
+use Rattle.list_moves.proofs.Moving.{given_back}
+use Rattle.list_moves.proofs.Desks.{some_of, at_desk, same_len, listed}
 use Rattle.gather_epoch.specs.declared.crew.Gathered.{Gathered}
-use Rattle.gather_epoch.proofs.Moving.{given_back}
 use Rattle.gather_epoch.specs.Desks.{IsLater, IsReady, HasWorkedAt}
 use Rattle.gather_epoch.specs.Dealing.{seat_at, meter_at, replicas_at, spill_at, room_at, number_at, outcome_at, claims_at, admitted_at, AreDealt}
 use Rattle.gather_epoch.specs.Gathering.{GoesOn, SomeCountRose, RoseOfOne, HasGatheredBy, HasGatheredAs, HaveGathered}
-
--- an entry of a list that has one there
-pub some_of : {X : Type 0} (list : List X) (w : ℕ) → w < length list → X
-some_of [] w below = absurd (omega arith)
-some_of (x ∷ list) w below = x
-
--- what stands at a desk is what stands in its list
-at_desk : {X Y : Type 0} (f : X → Y) (desks : List X) (list : List Y) → map f desks ≡ list → (w : ℕ) (d : X) (e : Y) → w < length desks → f (get_or desks w d) ≡ get_or list w e
-at_desk f desks list are w d e below = sym (get_or-map f desks w d e below) ∙ ap (λ l. get_or l w e) are
-
-same_len : {X Y : Type 0} (f : X → Y) (desks : List X) (list : List Y) → map f desks ≡ list → length list ≡ length desks
-same_len f desks list are = sym (ap (λ l. length l) are) ∙ length-map desks f
-
--- what holds of each desk holds of each entry of its list
-pub listed : {X Y : Type 0} (f : X → Y) (P : Y → Type 0) (desks : List X) (list : List Y) → map f desks ≡ list → ((w : ℕ) (d : X) → w < length desks → P (f (get_or desks w d))) → All P list
-listed f P desks list are each w e below =
-    let within : w < length desks = omega (arith, same_len f desks list are) in
-    let d = some_of desks w within in
-    subst P (at_desk f desks list are w d e within) (each w d within)
-
-rose_later : (a b c : ℕ) → a ≤ b → Rose b c → Rose a c
-rose_later a b c order rose = omega arith
 
 module _ {P D G M : Type 0} (rules : P → Rules) (state : D → DiskState) (faults : M → ℕ) (c : GatherContext P D G M) where
   abbrev the_terms : Terms
@@ -198,7 +178,7 @@ module _ {P D G M : Type 0} (rules : P → Rules) (state : D → DiskState) (fau
             pub rose : outcome_at (get_or done w desk) ≡ DiskFault → SomeCountRose state faults (get_or meters w m) (get_or meters' w m) (get_or spills w d) (get_or spills' w d)
             rose fault = ⊎_elim
                 (λ read. inl (subst (λ (x : M). Rose (faults x) (faults (get_or meters' w m))) (sym meter_was) (subst (λ (x : M). Rose (faults (meter_at (get_or desks w desk))) (faults x)) (sym meter_is) read)))
-                (λ written. inr (rose_later _ _ _ (omega (arith, step.faults, ap (λ (s : D). (state s).faults) spill_was)) (subst (λ (x : D). Rose (state (spill_at (get_or desks w desk))).faults (state x).faults) (sym spill_is) written)))
+                (λ written. inr (count_rose_before _ _ _ (omega (arith, step.faults, ap (λ (s : D). (state s).faults) spill_was)) (subst (λ (x : D). Rose (state (spill_at (get_or desks w desk))).faults (state x).faults) (sym spill_is) written)))
                 ((worked w desk within).cause.rose fault)
 
             pub gathered_as : (r : Replicas) (o : Outcome) → HasGatheredAs rules state faults c (get_or meters w m) (get_or meters' w m) (get_or spills w d) (get_or spills' w d) (get_or replicas' w r) w (list_of (epoch_with the_lens seats') w) (get_or (map outcome_at done) w o)

@@ -1,3 +1,2 @@
 pub mod Emptying
-pub mod Moving
 pub mod Assembling

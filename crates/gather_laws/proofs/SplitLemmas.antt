@@ -1,26 +1,18 @@
 -- Lists of sums that are cut into pieces, by places or by who took a chunk.
-use Rattle.std.proofs.Common.{◌≡◌, ℕ, ◌+◌, List, [], ◌∷◌, ◌++◌, length, get_or, map, refl, sym, ◌∙◌, ap, subst, arith, fold, flat_map, append_assoc, length-append}
+use Rattle.std.proofs.Common.{◌≡◌, ℕ, ◌+◌, List, [], ◌∷◌, ◌++◌, length, get_or, map, refl, sym, ◌∙◌, ap, subst, fold, flat_map, append_assoc}
 use Rattle.std.specs.List.{All, range_with_len}
 use Rattle.std.specs.List.Sorted.{IsPermutation}
-use Rattle.std.proofs.lemmas.List.{get_or_append_left, get_or-append-add, map-append}
+use Rattle.std.proofs.lemmas.List.{map-append}
 use Rattle.std.proofs.lemmas.List.Elements.{All-nil, All-cons, All-map}
 use Rattle.std.proofs.lemmas.List.Folds.{flat_map-map}
 use Rattle.std.proofs.lemmas.List.FromFn.{fill_by_all}
 use Rattle.std.proofs.lemmas.List.Sorted.{IsPermutation-map, All-permutation}
+use Rattle.graph_model.proofs.ListLemmas.{All-front, All-behind}
 use Rattle.gather_laws.specs.Laws.{MergeLaws, SplitsPlaces, items_at}
 use Rattle.gather_laws.proofs.MergeLemmas.{All-joined, all_merged, merged-joined, merged-permutation}
 
 abbrev pub joined : {X : Type 0} → List (List X) → List X
 joined pieces = flat_map (λ piece. piece) pieces
-
--- a fact of each element of a list is one of each element of its front and of its rest
-All-front : {X : Type 0} (P : X → Type 0) (xs ys : List X) → All P (xs ++ ys) → All P xs
-All-front P xs ys all k d below =
-    subst P (get_or_append_left xs ys d k below) (all k d (simp length-append (omega arith)))
-
-All-behind : {X : Type 0} (P : X → Type 0) (xs ys : List X) → All P (xs ++ ys) → All P ys
-All-behind P xs ys all k d below =
-    subst P (get_or-append-add xs ys k d) (all (length xs + k) d (simp length-append (omega arith)))
 
 -- a fact of each element of pieces is one of each element of each piece
 pub All-of_joined : {X : Type 0} (P : X → Type 0) (pieces : List (List X)) → All P (joined pieces) → All (All P) pieces

@@ -26,13 +26,10 @@ use Rattle.phase_model.specs.Taken.{records_of}
 use Rattle.phase_model.specs.Sums.{values_to, sum_at, sums_over, count_of, counts_of}
 use Rattle.phase_model.proofs.Sent.{values_to-append}
 use Rattle.phase_model.proofs.Counted.{counted}
+use Rattle.phase_model.proofs.Lists.{values_none}
 use Rattle.replica_merge.specs.Accumulators.{len_of}
 use Rattle.gather_phase.specs.Gathering.{Adding, partition_sums, of_partition, IsOf}
 use Rattle.store_reader.specs.Indexed.{lens_of, HasRecords}
-
-values_none : (v : ℕ) (us : List Update) → All (λ (u : Update). u.dst ≢ v) us → values_to v us ≡ []
-values_none v [] none = refl
-values_none v (u ∷ us) none = ap (map (λ (x : Update). x.value)) (cond-false (eqb u.dst v) _ _ (ne_eqb u.dst v (All-head (λ (x : Update). x.dst ≢ v) u us none))) ∙ values_none v us (All-tail (λ (x : Update). x.dst ≢ v) u us none)
 
 -- every update of a chunk is to its partition
 abbrev pub AreHomed : Split → (engines : ℕ) (lens : ℕ → ℕ) → (ℕ → ℕ → List Update) → Type 0

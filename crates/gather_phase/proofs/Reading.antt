@@ -1,16 +1,15 @@
 -- What is read of a chunk is what is taken from it, and is to the vertices of its partition.
-use Rattle.std.proofs.Common.{◌≡◌, ℕ, ◌+◌, ◌/◌, ◌^◌, ◌<◌, ◌≤◌, Bool, true, false, IfSome, List, length, take, ap, sym, ◌∙◌, subst, arith, nat_lt}
+use Rattle.std.proofs.Common.{◌≡◌, ℕ, ◌+◌, ◌^◌, ◌<◌, ◌≤◌, Bool, true, false, IfSome, List, length, take, ap, sym, ◌∙◌, subst, arith, nat_lt}
 use Rattle.std.specs.Prelude.{◌&&◌}
 use Rattle.std.proofs.lemmas.Bool.{and_parts, ltb-true}
 use Rattle.std.proofs.lemmas.List.Elements.{All-weaker}
 use Rattle.graph_model.specs.declared.edge.Edge.{Edge}
 use Rattle.graph_model.specs.declared.value.Update.{Update}
-use Rattle.graph_model.specs.Partitions.{first_vertex, part_len, partition_of}
+use Rattle.graph_model.specs.Partitions.{first_vertex, part_len}
 use Rattle.ports.specs.Disk.{DiskState}
 use Rattle.partitioner.specs.declared.split.Split.{Split}
 use Rattle.partitioner.specs.Splits.{IsSplit}
-use Rattle.partitioner.proofs.Made.{some_part}
-use Rattle.partitioner.proofs.Ranges.{partition_of-in_range}
+use Rattle.partitioner.proofs.Ranges.{in_partition}
 use Rattle.chunk_object.specs.Epochs.{cursor_of}
 use Rattle.chunk_model.specs.Layout.{Layout, IsLayout, edge_layout, update_layout}
 use Rattle.chunk_model.specs.ChunkBytes.{Belongs}
@@ -24,13 +23,6 @@ use Rattle.phase_model.specs.Sums.{counts_of}
 use Rattle.gather_phase.specs.Summing.{AreWithin, ComeFrom}
 use Rattle.gather_phase.specs.Phases.{Takes}
 use Rattle.store_reader.specs.Indexed.{HasRecords}
-
--- A vertex of a partition is in its range.
-in_partition : (split : Split) (p v : ℕ) → IsSplit split → v < split.vertices → v / split.span ≡ p → (first_vertex split.vertices split.parts p ≤ v) × (v < first_vertex split.vertices split.parts p + part_len split.vertices split.parts p)
-in_partition split p v is below home =
-    let here : partition_of split.vertices split.parts v ≡ p = ap (λ span. v / span) (sym is.span) ∙ home in
-    let range = partition_of-in_range split.vertices split.parts v p (some_part split is) below here in
-    (range.0, omega (arith, range.0, range.1))
 
 pub updates_within : (split : Split) (p first len : ℕ) (most : ℕ) (us : List Update) → IsSplit split → first ≡ first_vertex split.vertices split.parts p → len ≡ part_len split.vertices split.parts p → AreChunkIn update_layout split most p us → AreWithin first len us
 updates_within split p first len most us is first_is len_is are = All-weaker (Belongs update_layout split.vertices split.span p) (λ (u : Update). (first ≤ u.dst) × (u.dst < first + len)) within us are.belong

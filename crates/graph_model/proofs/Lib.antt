@@ -1,3 +1,5 @@
+pub mod BoolLemmas
+pub mod ListLemmas
 pub mod RoundLemmas
 pub mod SentLemmas
 pub mod SplitLemmas

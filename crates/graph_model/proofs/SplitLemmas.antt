@@ -31,7 +31,7 @@ ceil_div-div_ceil n b positive =
     let at_least : div_ceil n b < ceil_div n b + 1 = lt_of_mul-lt-mul_right b fewer in
     omega arith
 
-one-le-product : (a b : ℕ) → 1 ≤ a → 1 ≤ b → 1 ≤ a * b
+pub one-le-product : (a b : ℕ) → 1 ≤ a → 1 ≤ b → 1 ≤ a * b
 one-le-product a b left right = let more : a * 1 ≤ a * b = mul-le-mul_left a right in omega arith
 
 -- no multiple of the engines that is enough is less

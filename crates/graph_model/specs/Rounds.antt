@@ -76,3 +76,7 @@ pub record IsFinalValues (p : Rules) (vertices : ℕ) (edges : List Edge) (limit
   pub round : ℕ
   pub is_last : IsLastRound p vertices edges limit round
   pub are_values : found ≡ values p vertices edges round
+
+-- the two values are not the same
+abbrev pub differs : Value → Value → Bool
+differs a b = not (a.main == b.main && a.side == b.side)

@@ -2,10 +2,11 @@
 use Rattle.std.proofs.Common.{◌≡◌, ℕ, ◌<◌, List, length, get_or, slice_set, sym, ◌∙◌, subst}
 use Rattle.std.proofs.lemmas.List.{get_or_default, get_or-set_same}
 use Rattle.ports.specs.Faults.{Rose}
+use Rattle.ports.specs.Devices.{MetersGoOn}
 use Rattle.answer_lines.specs.declared.print.PrintFault.{PrintFault}
 use Rattle.answer_lines.specs.declared.print.PrintFault.TheVariants.{DiskFault}
 use Rattle.answer_lines.specs.Printing.{IsCaused as IsCausedPrinting}
-use Rattle.round_steps.specs.Going.{MetersGoOn, MeterRose}
+use Rattle.round_steps.specs.Going.{MeterRose}
 use Rattle.round_steps.proofs.Kept.{meter_rose_later}
 use Rattle.job_run.specs.declared.finish.Finish.{Finish}
 use Rattle.job_run.specs.declared.finish.Finish.TheVariants.{Answered, NotWritten, NotRead, Stopped}

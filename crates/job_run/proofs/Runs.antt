@@ -3,10 +3,10 @@ use Rattle.std.proofs.Common.{ℕ, List, Ok}
 use Rattle.graph_model.specs.declared.job.Job.{Job}
 use Rattle.graph_model.specs.Programs.{Rules}
 use Rattle.ports.specs.Disk.{DiskState}
+use Rattle.ports.specs.Devices.{MetersGoOn}
 use Rattle.chunk_cursor.specs.declared.view.View.{View}
 use Rattle.chunk_file.specs.declared.index.Place.{Place}
 use Rattle.store_reader.specs.declared.store.Store.{Store}
-use Rattle.round_steps.specs.Going.{MetersGoOn}
 use Rattle.round_steps.proofs.Kept.{meters_then}
 use Rattle.round_loop.specs.declared.run.Start.{Start}
 use Rattle.round_loop.specs.declared.run.Done.{Done}

@@ -5,7 +5,7 @@ ghost use Rattle.partitioner.specs.Splits.{IsSplit};
 ghost use Rattle.value_text.specs.Shown.{shows_side as shows_side_of};
 ghost use Rattle.answer_lines.specs.Values.{AreValuesDevices};
 ghost use Rattle.answer_lines.specs.Room.{IsRoom};
-ghost use Rattle.round_steps.specs.Going.{MetersGoOn};
+ghost use Rattle.ports.specs.Devices.{MetersGoOn};
 ghost use Rattle.job_run.specs.Finish.{rounds_of};
 ghost use Rattle.job_run.specs.Running.{Prints, HasFinishCause};
 

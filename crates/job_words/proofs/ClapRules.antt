@@ -10,10 +10,11 @@ use Rattle.clap.specs.declared.builder.action.ArgAction.TheVariants.{Append, Set
 use Rattle.clap.specs.declared.builder.range.ValueRange.{ValueRange}
 use Rattle.clap.specs.declared.builder.value_parser.ValueParser.TheVariants as vp
 use Rattle.clap.proofs.OnLiterals.{clap_on_literals}
+use Rattle.graph_model.proofs.BoolLemmas.{not_true, true_is_not, false_of, not_of, both, and_true, or_false}
 use Rattle.job_words.specs.Tables.{Text, PositionRow, OptionRow, FlagRow, positions, options, flags}
 use Rattle.job_words.specs.Reading.{is_flag, is_option}
 use Rattle.job_words.specs.Reader.{reader}
-use Rattle.job_words.proofs.BoolLemmas.{same_of, not_true, true_is_not, differs, both, and_true, not_of, false_of, or_false}
+use Rattle.job_words.proofs.BoolLemmas.{same_of, differs}
 
 -- ---- what building makes of the rules
 

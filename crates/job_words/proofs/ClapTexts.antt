@@ -7,9 +7,10 @@ use Rattle.std.proofs.lemmas.List.Elements.{filter-append}
 use Rattle.clap.specs.Walk.{Row, all_of, has_row, with_values, without}
 use Rattle.clap.specs.declared.builder.value_parser.Reading.{Reading}
 use Rattle.clap.specs.declared.parser.matches.ValueSource.{ValueSource}
+use Rattle.graph_model.proofs.BoolLemmas.{not_true, true_is_not, false_of, both, and_true, neither}
 use Rattle.job_words.specs.Tables.{Text, PositionRow}
 use Rattle.job_words.specs.Reading.{Given, texts_of, with_given}
-use Rattle.job_words.proofs.BoolLemmas.{same_of, not_true, true_is_not, both, and_true, false_of}
+use Rattle.job_words.proofs.BoolLemmas.{same_of}
 
 abbrev pub texts : Text → List Row → List Text
 texts id rows = unwrap_or (all_of id rows) []
@@ -73,13 +74,9 @@ module _ (what : Text) (how : Reading) (source : ValueSource) (values : List Tex
 without_step : (id : Text) (r : Row) (rs : List Row) → bytes_eq r.id id ≡ false → without id rs ≡ rs → without id (r ∷ rs) ≡ r ∷ rs
 without_step id r rs other rest = rw other (ap (λ xs. r ∷ xs) rest)
 
-no_row : (a b : Bool) → (a || b) ≡ false → (a ≡ false) × (b ≡ false)
-no_row true b e = absurd (true_is_not true refl e)
-no_row false b e = (refl, e)
-
 pub without_none : (id : Text) (rows : List Row) → has_row id rows ≡ false → without id rows ≡ rows
 without_none id [] none = refl
-without_none id (r ∷ rs) none = let parts = no_row _ _ none in without_step id r rs parts.0 (without_none id rs parts.1)
+without_none id (r ∷ rs) none = let parts = neither _ _ none in without_step id r rs parts.0 (without_none id rs parts.1)
 
 -- ---- the rows and what was given
 

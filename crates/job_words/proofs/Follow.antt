@@ -12,9 +12,10 @@ use Rattle.clap.specs.Faults.{flags_fault, settle_fault, turn_fault, walk_fault}
 use Rattle.clap.specs.declared.builder.value_parser.Reading.TheVariants as how
 use Rattle.clap.specs.declared.error.kind.ErrorKind.{ErrorKind}
 use Rattle.clap.specs.declared.parser.matches.ValueSource.TheVariants.{CommandLine}
+use Rattle.graph_model.proofs.BoolLemmas.{true_is_not, false_of, both, and_false}
 use Rattle.job_words.specs.Tables.{PositionRow}
 use Rattle.job_words.specs.Reading.{Given, Reading, refused, after_word, after_name, after_positional, after_shape, is_flag, is_option, shape_of, with_given}
-use Rattle.job_words.proofs.BoolLemmas.{same_eq, same_of, true_is_not, both, and_false, false_of}
+use Rattle.job_words.proofs.BoolLemmas.{same_eq, same_of}
 use Rattle.job_words.proofs.Shapes.{Look, looks_plain, looks_named, looks_short, looks_lone, look_of}
 use Rattle.job_words.specs.Reader.{is_lone, hyphen, hyphens}
 use Rattle.job_words.proofs.ClapTexts.{Agrees, agrees_more, free_more, without_none}

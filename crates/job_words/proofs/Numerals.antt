@@ -7,9 +7,9 @@ use Rattle.std.specs.Result.{OkIff, result_ok}
 use Rattle.std.specs.Str.Parse.{ParsesUnsigned, digits_value}
 use Rattle.std.proofs.lemmas.Str.Parse.{IsDigitsTest, IsNumeralModel, numerals_by_value, parse_digits}
 use Rattle.graph_model.specs.EdgeText.{has_bytes, number}
+use Rattle.graph_model.proofs.BoolLemmas.{not_true, true_is_not}
 use Rattle.job_words.specs.Tables.{Text}
 use Rattle.job_words.specs.Commands.{and_then, number_between}
-use Rattle.job_words.proofs.BoolLemmas.{not_true, true_is_not}
 
 abbrev HasDigits : Text → Type 0
 HasDigits text = list_all is_ascii_digit text ≡ true

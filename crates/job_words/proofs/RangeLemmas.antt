@@ -12,6 +12,7 @@ use Rattle.job_words.specs.declared.command.Command.{Command}
 use Rattle.job_words.specs.declared.command.Command.TheVariants.{Run, Bench, Resume, Discard}
 use Rattle.job_words.specs.Tables.{Text, vertex, between, ProgramRow, OptionRow, programs, engines_option, most_option, chunk_option, seed_option, alpha_option, limit_option, scale_option, edges_option, rng_option, vertices_option, command_word, program_word, argument_word}
 use Rattle.graph_model.specs.Partitions.{MAX_PARTS}
+use Rattle.graph_model.proofs.BoolLemmas.{both}
 use Rattle.std.proofs.Math.Nat.{pow-le-pow_right}
 use Rattle.job_words.specs.Reading.{given_of, texts_of}
 use Rattle.job_words.specs.Commands.{CommandRow, IsInRanges, IsNewJob, Texts, and_then, argument_given, bench_in, command_by, command_in, command_named, command_of, commands, discard_in, engines_of, gives_once, gives_only, resume_in, run_in, job_in, number_between, option_given, option_in, program_in, program_named, program_of}
@@ -22,7 +23,6 @@ use Rattle.job_words.specs.declared.command.WordFault.{WordFault}
 use Rattle.job_words.specs.declared.command.WordFault.TheVariants.{Usage}
 use Rattle.job_words.specs.Reader.{IsReadAs, texts_in}
 use Rattle.job_words.proofs.GivenLemmas.{command_read}
-use Rattle.job_words.proofs.BoolLemmas.{both}
 
 -- ---- a value that is there
 

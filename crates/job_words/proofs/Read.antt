@@ -15,9 +15,9 @@ use Rattle.clap.specs.declared.error.kind.ErrorKind.{ErrorKind}
 use Rattle.clap.specs.declared.parser.matches.ArgMatches.{ArgMatches}
 use Rattle.clap.proofs.SimpleLemmas.{is_nil}
 use Rattle.clap.proofs.WalkLemmas.{list_any-map, raw_values-rows}
+use Rattle.graph_model.proofs.BoolLemmas.{both, or_true, neither}
 use Rattle.job_words.specs.Reading.{Given, Reading, given_by, given_of, nothing_read, after_word, is_option}
 use Rattle.job_words.specs.Reader.{reader, texts_in, is_lone, IsReadAs}
-use Rattle.job_words.proofs.BoolLemmas.{both, neither, or_true}
 use Rattle.job_words.proofs.ClapTexts.{Agrees, texts}
 use Rattle.job_words.proofs.ClapRules.{Serves, reader_is_free, reader_is_simple, tables_serve, top}
 use Rattle.job_words.proofs.Follow.{AreReadable, Follows, Goes, StandsAt, first_fault, follows, later_fault, lone_refused, no_fault, some_fault, wanting}

@@ -1,16 +1,12 @@
 -- A split that was made is one, and the numbers of its partitions are unique.
 use Rattle.std.proofs.Common.{◌≡◌, ℕ, ◌*◌, ◌^◌, ◌<◌, ◌≤◌, ◌==◌, if◌then◌else◌, Bool, true, false, max, refl, sym, ◌∙◌, ap, subst, arith}
 use Rattle.std.specs.Int.{IsInRange, div_ceil}
-use Rattle.std.proofs.Math.Nat.{mul-le-mul_left}
 use Rattle.graph_model.specs.Partitions.{IsPartCount, MAX_PARTS, ceil_div, part_count}
-use Rattle.graph_model.proofs.SplitLemmas.{part_count_is, ceil_div-div_ceil}
+use Rattle.graph_model.proofs.SplitLemmas.{part_count_is, ceil_div-div_ceil, one-le-product}
 use Rattle.partitioner.specs.declared.split.Split.{Split}
 use Rattle.graph_model.specs.declared.job.Job.{Job}
 use Rattle.graph_model.specs.Jobs.{IsWellFormedJob, most_vertices, parts_of}
 use Rattle.partitioner.specs.Splits.{IsSplit, IsSplitBy, IsSplitOf, split_for}
-
-pub one-le-product : (a b : ℕ) → 1 ≤ a → 1 ≤ b → 1 ≤ a * b
-one-le-product a b left right = let more : a * 1 ≤ a * b = mul-le-mul_left a right in omega arith
 
 -- there is one least number
 pub part_count-unique : (n engines most parts : ℕ) → 1 ≤ engines → 1 ≤ most → IsPartCount n engines most parts → parts ≡ part_count n engines most
@@ -69,7 +65,7 @@ is_split-made split is = record {
   span = is.span;
 }
 
-most_of_all : (is_first : Bool) → (if is_first then 4194304 else 67108864) ≤ 67108864
+pub most_of_all : (is_first : Bool) → (if is_first then 4194304 else 67108864) ≤ 67108864
 most_of_all true = omega arith
 most_of_all false = omega arith
 
@@ -110,3 +106,7 @@ split_is job split of_job =
 -- and it is of that job
 pub is_split_for : (job : Job) → IsSplitOf job (split_for job)
 is_split_for job = record { vertices = refl; engines = refl; parts = refl; span = refl }
+
+-- a job has partitions, and each vertex is in one
+pub some_parts : (job : Job) → IsWellFormedJob job → 1 ≤ parts_of job
+some_parts job well = one-le-product job.engines (max 1 (ceil_div job.vertices (job.engines * job.most))) well.engines.0 (omega arith)

@@ -4,17 +4,12 @@ use Rattle.std.proofs.Math.Nat.{mod-lt}
 use Rattle.std.specs.List.{range_with_len, sum_by}
 use Rattle.std.proofs.lemmas.Bool.{eqb-true, eqb-false}
 use Rattle.std.proofs.lemmas.List.Elements.{filter-append}
-use Rattle.std.proofs.lemmas.List.Sums.{sum_by-append, sum_by_push}
+use Rattle.std.proofs.lemmas.List.Sums.{sum_by-append}
 use Rattle.graph_model.specs.Partitions.{first_vertex, part_len, master_of, parts_of_master, own_count, own_before}
+use Rattle.graph_model.proofs.ListLemmas.{range_with_len-more, sum_by_range-more}
+use Rattle.graph_model.proofs.BoolLemmas.{unequal}
 use Rattle.partitioner.specs.Splits.{own_below}
-use Rattle.partitioner.proofs.Ranges.{range_with_len-more, first_vertex-next, first_vertex-end}
-
-unequal_by : (a b : ℕ) (test : Bool) → a == b ≡ test → (a ≡ b → ⊥) → a == b ≡ false
-unequal_by a b true same other = absurd (other (eqb-true a b same))
-unequal_by a b false same other = same
-
-unequal : (a b : ℕ) → (a ≡ b → ⊥) → a == b ≡ false
-unequal a b other = unequal_by a b (a == b) refl other
+use Rattle.partitioner.proofs.Ranges.{first_vertex-next, first_vertex-end}
 
 -- one more partition, which the engine has or has not
 parts_more : (engines p e : ℕ) (own : Bool) → master_of engines p == e ≡ own → parts_of_master engines (p + 1) e ≡ parts_of_master engines p e ++ (if own then p ∷ [] else [])
@@ -77,12 +72,8 @@ own_below-le n engines parts (suc p) e =
 pub own_count-le : (n engines parts e : ℕ) → own_count n engines parts e ≤ n
 own_count-le n engines parts e = let below = own_below-le n engines parts parts e in omega (arith, below)
 
--- over so many engines, adding a number at one of them adds it to their sum
-sum_step : (f : ℕ → ℕ) (engines : ℕ) → sum_by f (range_with_len 0 (engines + 1)) ≡ sum_by f (range_with_len 0 engines) + f engines
-sum_step f engines = ap (sum_by f) (range_with_len-more engines) ∙ sum_by_push f (range_with_len 0 engines) engines
-
 -- the step by which the sum grows, where that engine was counted, comes now, or comes later
-one_of : (master engines more : ℕ) → (if nat_lt master (engines + 1) then more else 0) ≡ (if nat_lt master engines then more else 0) + (if master == engines then more else 0)
+pub one_of : (master engines more : ℕ) → (if nat_lt master (engines + 1) then more else 0) ≡ (if nat_lt master engines then more else 0) + (if master == engines then more else 0)
 one_of master engines more = grind arith
 
 none_of : (master more : ℕ) → 0 ≡ 0 + (if nat_lt master 0 then more else 0)
@@ -96,8 +87,8 @@ sum_more f g master more adds zero = none_of master more
 sum_more f g master more adds (suc engines) =
     let goal_at : ℕ → Type 0 = λ k. sum_by g (range_with_len 0 k) ≡ sum_by f (range_with_len 0 k) + (if nat_lt master k then more else 0) in
     let before = sum_more f g master more adds engines in
-    let new = sum_step g engines in
-    let old = sum_step f engines in
+    let new = sum_by_range-more g engines in
+    let old = sum_by_range-more f engines in
     let here = adds engines in
     let one = one_of master engines more in
     subst goal_at (add-one engines) (omega (arith, before, new, old, here, one))
@@ -106,7 +97,7 @@ sum_none : (engines : ℕ) → sum_by (λ e. 0) (range_with_len 0 engines) ≡ 0
 sum_none zero = refl
 sum_none (suc engines) =
     let before = sum_none engines in
-    let new = sum_step (λ e. 0) engines in
+    let new = sum_by_range-more (λ e. 0) engines in
     subst (λ k. sum_by (λ e. 0) (range_with_len 0 k) ≡ 0) (add-one engines) (omega (arith, before, new))
 
 -- the engines' counts below p add up to the vertices below p

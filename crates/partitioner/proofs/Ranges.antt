@@ -1,10 +1,14 @@
 -- The ranges of the partitions, in order, are all vertices; each vertex is in the range of its partition.
-use Rattle.std.proofs.Common.{◌≡◌, ℕ, zero, suc, ◌+◌, ◌*◌, ◌/◌, ◌<◌, ◌≤◌, [], ◌∷◌, ◌++◌, refl, sym, ◌∙◌, subst, ap, arith, add-one, add-zero, zero-add, append-nil}
+use Rattle.std.proofs.Common.{◌≡◌, ℕ, zero, suc, ◌+◌, ◌*◌, ◌/◌, ◌<◌, ◌≤◌, [], ◌∷◌, ◌++◌, sym, ◌∙◌, subst, ap, arith, add-one, zero-add, append-nil}
 use Rattle.std.proofs.Math.Nat.{div-lt_iff_lt-mul, div-mul-le_self, lt-div-mul-add, le-div_iff_mul-le}
 use Rattle.std.specs.List.{range_with_len, flat_map}
 use Rattle.std.proofs.lemmas.Grind.{flat_map-append}
 use Rattle.graph_model.specs.Partitions.{ceil_div, first_vertex, part_len, vertices_in, partition_of}
 use Rattle.graph_model.proofs.SplitLemmas.{ceil_div-below}
+use Rattle.graph_model.proofs.ListLemmas.{range_with_len-more, range_with_len-append}
+use Rattle.partitioner.specs.declared.split.Split.{Split}
+use Rattle.partitioner.specs.Splits.{IsSplit}
+use Rattle.partitioner.proofs.Made.{some_part}
 
 -- all partitions together reach the last vertex
 span_reaches : (n parts : ℕ) → 1 ≤ parts → n ≤ parts * ceil_div n parts
@@ -23,17 +27,6 @@ first_vertex-next n parts p q one_more = subst (λ k. first_vertex n parts p + p
 -- no partition has more vertices than the span
 pub part_len-span : (n parts p : ℕ) → part_len n parts p ≤ ceil_div n parts
 part_len-span n parts p = let next = next_product p (ceil_div n parts) in omega arith
-
-pub range_with_len-append : (a m n : ℕ) → range_with_len a m ++ range_with_len (a + m) n ≡ range_with_len a (m + n)
-range_with_len-append a zero n = rw (add-zero a, zero-add n) refl
-range_with_len-append a (suc m) n =
-    let start : a + suc m ≡ a + 1 + m = omega arith in
-    let len : suc m + n ≡ suc (m + n) = omega arith in
-    rw (start, len) (ap (λ rest. a ∷ rest) (range_with_len-append (a + 1) m n))
-
--- a row that is longer by one has one more number at its end
-pub range_with_len-more : (n : ℕ) → range_with_len 0 (n + 1) ≡ range_with_len 0 n ++ n ∷ []
-range_with_len-more n = sym (subst (λ k. range_with_len 0 n ++ k ∷ [] ≡ range_with_len 0 (n + 1)) (zero-add n) (range_with_len-append 0 n 1))
 
 -- the ranges of the partitions below p, in order, are all vertices below the first one of p
 pub ranges_join : (n parts p : ℕ) → flat_map (vertices_in n parts) (range_with_len 0 p) ≡ range_with_len 0 (first_vertex n parts p)
@@ -83,3 +76,10 @@ in_range-partition_of n parts v p some_part from below =
     let not_below : p ≤ v / span = (le-div_iff_mul-le some_span).1 reached in
     let not_above : v / span < p + 1 = (div-lt_iff_lt-mul some_span).1 (omega (arith, below)) in
     omega (arith, not_below, not_above)
+
+-- A vertex of a partition is in its range.
+pub in_partition : (split : Split) (p v : ℕ) → IsSplit split → v < split.vertices → v / split.span ≡ p → (first_vertex split.vertices split.parts p ≤ v) × (v < first_vertex split.vertices split.parts p + part_len split.vertices split.parts p)
+in_partition split p v is below home =
+    let here : partition_of split.vertices split.parts v ≡ p = ap (λ span. v / span) (sym is.span) ∙ home in
+    let range = partition_of-in_range split.vertices split.parts v p (some_part split is) below here in
+    (range.0, omega (arith, range.0, range.1))

@@ -1,7 +1,7 @@
 -- Where a partition has no chunk left, each of its chunks was taken once.
 use Rattle.std.proofs.Common.{◌≡◌, ◌≢◌, ℕ, zero, suc, ◌+◌, ◌-◌, ◌/◌, ◌%◌, ◌<◌, ◌≤◌, ◌==◌, ◌&&◌, nat_lt, if◌then◌else◌, Bool, true, false, List, [], ◌∷◌, ◌++◌, get_or, flat_map, refl, sym, ◌∙◌, ap, subst, zero-add, eq-eqb, arith}
 use Rattle.std.specs.List.{All, count_by, fold}
-use Rattle.std.proofs.Math.Nat.{mul-add-div, div-eq_of_lt, div-add-mod}
+use Rattle.std.proofs.Math.Nat.{div-add-mod}
 use Rattle.std.proofs.lemmas.Bool.{eqb-true, eqb-false, ltb-true}
 use Rattle.std.proofs.lemmas.List.Elements.{All-head, All-tail}
 use Rattle.graph_model.specs.declared.value.Update.{Update}
@@ -11,6 +11,7 @@ use Rattle.chunk_object.specs.declared.call.Call.TheVariants as call
 use Rattle.chunk_object.specs.History.{one_below, takes}
 use Rattle.chunk_object.specs.Epochs.{cursor_of}
 use Rattle.chunk_object.proofs.Covered.{count-cons, count_by-append}
+use Rattle.chunk_object.proofs.Dutiful.{cursor_parts}
 use Rattle.phase_model.specs.Taken.{taken}
 use Rattle.phase_core.specs.declared.event.Event.{Event}
 use Rattle.phase_core.specs.declared.event.Event.TheVariants.{Claim, Look, Heads, Admit, Finish}
@@ -19,16 +20,18 @@ use Rattle.phase_core.specs.declared.event.Reply.TheVariants.{Took, Exhausted, N
 use Rattle.phase_core.specs.Machine.{Machine, fresh, is_timely, reply, after_reply, stepped}
 use Rattle.phase_core.specs.Runs.{ran, calls_of, all_calls}
 use Rattle.phase_core.specs.Sums.{merged_at, AreSums, IsOfSplit, IsDrained, updates_put}
-use Rattle.phase_core.proofs.Shelved.{is_chunk, unequal, cursor_at, lens_other, IsMerged, shelf_merged}
+use Rattle.phase_core.proofs.Shelved.{is_chunk, cursor_at, lens_other, IsMerged, shelf_merged}
 use Rattle.phase_core.proofs.Taking.{values_are_sums, values_of_records, merged_fresh, split_kept}
 use Rattle.gather_laws.specs.Laws.{GatherLaws}
 use Rattle.graph_model.specs.Partitions.{partition_of}
+use Rattle.graph_model.proofs.BoolLemmas.{unequal}
 use Rattle.partitioner.specs.declared.split.Split.{Split}
 use Rattle.partitioner.specs.Splits.{IsSplit}
 use Rattle.chunk_model.specs.Chunks.{Chunk}
 use Rattle.phase_model.specs.Shelves.{Shelf, lens_of, records_at}
 use Rattle.phase_model.specs.Sums.{values_to}
 use Rattle.phase_model.proofs.Sent.{values_to-append}
+use Rattle.phase_model.proofs.Lists.{values_none}
 
 -- taking is standing among what was taken
 pub count_taken : (cursor place : ℕ) (calls : List Call) → count_by (is_chunk cursor place) (taken calls) ≡ count_by (takes cursor place) calls
@@ -155,15 +158,6 @@ module _ (rules : Rules) where
 none_below : (place : ℕ) → one_below 0 place ≡ 0
 none_below place = grind arith
 
--- the cursor and the partition of a chunk
-pub cursor_parts : (engine partition : ℕ) → partition < 64 → (cursor_of engine partition / 64 ≡ engine) × (cursor_of engine partition % 64 ≡ partition)
-cursor_parts engine partition small =
-    let some : zero < 64 = omega arith in
-    let divided : cursor_of engine partition / 64 ≡ engine + partition / 64 = mul-add-div some engine partition in
-    let none : partition / 64 ≡ 0 = div-eq_of_lt small in
-    let quotient : cursor_of engine partition / 64 ≡ engine = omega (arith, divided, none) in
-    (quotient, omega (arith, quotient, div-add-mod (cursor_of engine partition) 64))
-
 -- a cursor that no engine has holds no chunk
 no_engine : (split : Split) → split.parts ≤ 64 → (chunks : Shelf Update) → All (IsOfSplit split) chunks → (cursor : ℕ) → split.engines ≤ cursor / 64 → lens_of chunks cursor ≡ 0
 no_engine split few [] all cursor past = refl
@@ -175,12 +169,6 @@ no_engine split few (c ∷ chunks) all cursor past =
     let below = here.engine in
     omega (arith, quotient, past, below) in
     lens_other c chunks cursor (unequal (cursor_at c) cursor apart) ∙ no_engine split few chunks (All-tail (IsOfSplit split) c chunks all) cursor past
-
--- no value is sent to a vertex that is no destination
-no_values : (vertex : ℕ) (updates : List Update) → All (λ (u : Update). u.dst ≢ vertex) updates → values_to vertex updates ≡ []
-no_values vertex [] all = refl
-no_values vertex (u ∷ updates) all =
-    rw (unequal u.dst vertex (All-head (λ (u : Update). u.dst ≢ vertex) u updates all)) (no_values vertex updates (All-tail (λ (u : Update). u.dst ≢ vertex) u updates all))
 
 values_of_put : (vertex : ℕ) (chunks : Shelf Update) → flat_map (λ (c : ℕ × Chunk Update). values_to vertex c.1.items) chunks ≡ values_to vertex (updates_put chunks)
 values_of_put vertex [] = refl
@@ -206,7 +194,7 @@ module _ (rules : Rules) (IsSum : ℕ → Type 0) (laws : GatherLaws rules IsSum
   merged_chunk : (c : ℕ × Chunk Update) → IsOfSplit split c → All (λ (u : Update). IsSum u.value) c.1.items → IsMerged rules.unit rules.merge IsSum laws.merging g mine refl c
   merged_chunk c of_split values = record {
     sums = values_are_sums IsSum vertex c.1.items values;
-    others = λ other. no_values vertex c.1.items
+    others = λ other. values_none vertex c.1.items
         (λ k d below equal.
         let small : c.1.partition < 64 = omega (arith, of_split.partition, is.few) in
         let at_home : partition_of split.vertices split.parts (get_or c.1.items k d).dst ≡ c.1.partition = of_split.home k d below in

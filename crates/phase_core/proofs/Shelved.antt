@@ -10,6 +10,7 @@ use Rattle.chunk_object.specs.History.{one_below}
 use Rattle.chunk_object.specs.Epochs.{cursor_of}
 use Rattle.chunk_model.specs.Chunks.{Chunk}
 use Rattle.phase_model.specs.Shelves.{Shelf, at_cursor, lens_of, records_at, no_chunk}
+use Rattle.graph_model.proofs.BoolLemmas.{unequal}
 
 -- the cursor of a chunk with its engine
 abbrev pub cursor_at : {X : Type 0} → ℕ × Chunk X → ℕ
@@ -116,13 +117,6 @@ same_anywhere f g same (y ∷ ys) = ap (λ front. front ++ flat_map f ys) (same 
 -- behind the first chunk of a cursor each of its chunks has a number that is less by one
 abbrev pub moved_up : ℕ → ℕ × ℕ → ℕ × ℕ
 moved_up cursor chunk = (chunk.0, if chunk.0 == cursor then pred chunk.1 else chunk.1)
-
-unequal_by : (a b : ℕ) (test : Bool) → a == b ≡ test → (a ≡ b → ⊥) → a == b ≡ false
-unequal_by a b true same other = absurd (other (eqb-true a b same))
-unequal_by a b false same other = same
-
-pub unequal : (a b : ℕ) → (a ≡ b → ⊥) → a == b ≡ false
-unequal a b other = unequal_by a b (a == b) refl other
 
 suc_tests : (b place : ℕ) → b == place ≡ (suc b == suc place)
 suc_tests b place = grind arith

@@ -9,6 +9,7 @@ use Rattle.std.proofs.Math.Nat.{mul-le-mul_left}
 use Rattle.std.proofs.lemmas.List.Elements.{All-head, All-tail}
 use Rattle.graph_model.specs.declared.value.Update.{Update}
 use Rattle.graph_model.specs.Programs.{Rules}
+use Rattle.graph_model.proofs.BoolLemmas.{unequal}
 use Rattle.chunk_object.specs.Object.{put_at}
 use Rattle.chunk_object.specs.Epochs.{cursor_of}
 use Rattle.chunk_object.specs.History.{one_below}
@@ -123,13 +124,6 @@ claim_bounds m worker engine partition test =
     let both = and_parts (is_active m worker) (is_cursor m engine partition) (and_parts there works (and_parts (there && works) refusal test).0).0 in
     let cursor = and_parts (nat_lt engine m.split.engines) (nat_lt partition m.split.parts) both.1 in
     (active_below m worker both.0, ltb-true engine m.split.engines cursor.0, ltb-true partition m.split.parts cursor.1)
-
-unequal : (a b : ℕ) → (a ≡ b → ⊥) → a == b ≡ false
-unequal a b other = by_test (a == b) refl
-  where
-    by_test : (test : Bool) → a == b ≡ test → a == b ≡ false
-    by_test true same = absurd (other (eqb-true a b same))
-    by_test false same = same
 
 -- nothing is sent to a vertex past all destinations
 values_to_past : (v n : ℕ) (updates : List Update) → All (λ (u : Update). u.dst < n) updates → n ≤ v → values_to v updates ≡ []

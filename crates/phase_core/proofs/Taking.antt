@@ -8,6 +8,7 @@ use Rattle.gather_laws.specs.Laws.{GatherLaws}
 use Rattle.gather_laws.proofs.MergeLemmas.{merged_is_sum, merged-append}
 use Rattle.graph_model.specs.declared.value.Update.{Update}
 use Rattle.graph_model.specs.Programs.{Rules}
+use Rattle.graph_model.proofs.BoolLemmas.{unequal}
 use Rattle.partitioner.specs.declared.split.Split.{Split}
 use Rattle.chunk_object.specs.declared.call.Call.{Call}
 use Rattle.chunk_object.specs.Epochs.{cursor_of}
@@ -22,7 +23,7 @@ use Rattle.phase_core.specs.declared.event.Reply.{Reply}
 use Rattle.phase_core.specs.declared.event.Reply.TheVariants.{Took, Exhausted, Number, Admitted, Finished, NotNow}
 use Rattle.phase_core.specs.Machine.{Machine, fresh, is_active, is_cursor, works_at, is_timely, answer, folded, reply, after_reply, stepped}
 use Rattle.phase_core.specs.Sums.{merged_at, AreSums}
-use Rattle.phase_core.proofs.Shelved.{unequal, records_all, all_taken}
+use Rattle.phase_core.proofs.Shelved.{records_all, all_taken}
 use Rattle.phase_core.proofs.Merging.{merged_raised, merged_sums, merged_units, folded_merge}
 use Rattle.phase_core.specs.Runs.{ran, worker_of, calls_of, all_calls, calls_by}
 

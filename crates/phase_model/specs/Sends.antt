@@ -1,21 +1,17 @@
 -- What edges send in a phase.
-use Rattle.std.specs.Prelude.{ℕ, Bool, true, not, ◌==◌, ◌&&◌, if◌then◌else◌, Option, Some, None, List, [], ◌∷◌}
+use Rattle.std.specs.Prelude.{ℕ, Bool, true, if◌then◌else◌, Option, Some, None, List, [], ◌∷◌}
 use Rattle.std.specs.List.{flat_map}
 use Rattle.graph_model.specs.declared.edge.Edge.{Edge}
 use Rattle.graph_model.specs.declared.value.Value.{Value}
 use Rattle.graph_model.specs.declared.value.Update.{Update}
 use Rattle.graph_model.specs.Programs.{Rules}
-use Rattle.graph_model.specs.Rounds.{value_at}
+use Rattle.graph_model.specs.Rounds.{value_at, differs}
 
 -- By what a phase sends: the rule of the program, the values of all vertices, and, where only those send whose value is another one, the values of the round before
 pub record Sending : Type 0 where
   pub send : Value → ℕ → Option ℕ
   pub now : ℕ → Value
   pub before : Option (ℕ → Value)
-
--- the two values are not the same
-abbrev pub differs : Value → Value → Bool
-differs a b = not (a.main == b.main && a.side == b.side)
 
 -- what a vertex of this value sends, if it sends, where before it had that value
 abbrev pub is_sender_since : Option (ℕ → Value) → (ℕ → Value) → ℕ → Bool

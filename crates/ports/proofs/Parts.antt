@@ -122,3 +122,9 @@ bytes_at-two at a b old within =
     (bytes_at-torn (at + length a) (length b) first (after_write (at + length a) b first) at (length a) (torn_after_write (at + length a) b first) (inl (omega arith)) (omega (arith, long))
     ∙ bytes_at-after_write at a old (omega arith))
     ∙ ap (λ bytes. a ++ bytes) (bytes_at-after_write (at + length a) b first (omega (arith, long)))
+
+-- the front of what was written, up to the end of the piece
+pub take-after_write : (at n : ℕ) (piece old : List ℕ) → at ≤ length old → n ≡ at + length piece → take n (after_write at piece old) ≡ take at old ++ piece
+take-after_write at n piece old within end =
+    take_at (take at old ++ piece) (drop (at + length piece) old) n
+    (length-append (take at old) piece ∙ ap (λ k. k + length piece) (length-take-le at old within) ∙ sym end)

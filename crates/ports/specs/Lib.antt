@@ -1,4 +1,5 @@
 pub mod Bytes
+pub mod Devices
 pub mod Disk
 pub mod Faults
 pub mod Sink

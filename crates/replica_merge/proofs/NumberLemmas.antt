@@ -1,12 +1,12 @@
 -- Numbers as bytes, and back.
 use Rattle.std.proofs.Common.{◌≡◌, ℕ, ◌+◌, ◌-◌, ◌*◌, ◌^◌, ◌<◌, ◌≤◌, zero, suc, List, [], ◌∷◌, ◌++◌, length, take, drop, get_or, refl, sym, ◌∙◌, ap, arith, length-append}
 use Rattle.std.specs.Int.{to_be_bytes, from_be_bytes, w64}
-use Rattle.std.proofs.lemmas.List.{take_at, drop_at, take_all, take_more, length-take-le, append-nil}
+use Rattle.std.proofs.lemmas.List.{take_at, drop_at, take_all, take_more, append-nil}
 use Rattle.std.proofs.lemmas.Grind.{flat_map-append}
 use Rattle.std.proofs.lemmas.Nat.{from_be_bytes-to_be_bytes_8}
 use Rattle.std.proofs.Math.Seq.{take-add}
 use Rattle.ports.specs.Bytes.{bytes_at, after_write}
-use Rattle.ports.proofs.Parts.{bytes_at-within}
+use Rattle.ports.proofs.Parts.{bytes_at-within, take-after_write}
 use Rattle.replica_merge.specs.Numbers.{bytes_of_numbers, numbers_at}
 
 length-be : (n : ℕ) → length (to_be_bytes w64 n) ≡ 8
@@ -33,12 +33,6 @@ bytes_of_numbers-piece numbers done count =
     ap (λ n. bytes_of_numbers (take done numbers) ++ bytes_of_numbers (take n (drop done numbers))) long
     ∙ sym (flat_map-append (to_be_bytes w64) (take done numbers) (take count (drop done numbers)))
     ∙ ap bytes_of_numbers (sym (take-add done count numbers))
-
--- the front of what was written, up to the end of the piece
-take-after_write : (at n : ℕ) (piece old : List ℕ) → at ≤ length old → n ≡ at + length piece → take n (after_write at piece old) ≡ take at old ++ piece
-take-after_write at n piece old within end =
-    take_at (take at old ++ piece) (drop (at + length piece) old) n
-    (length-append (take at old) piece ∙ ap (λ k. k + length piece) (length-take-le at old within) ∙ sym end)
 
 -- a loop that writes numbers, one behind the other
 pub put_more : (numbers bytes : List ℕ) (i : ℕ) → i < length numbers → 8 * i ≤ length bytes →

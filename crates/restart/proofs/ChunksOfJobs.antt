@@ -8,7 +8,7 @@ use Rattle.graph_model.specs.declared.edge.TheConstants.{MAX_WEIGHT}
 use Rattle.graph_model.specs.declared.job.Job.{Job}
 use Rattle.graph_model.specs.Jobs.{IsWellFormedJob, parts_of}
 use Rattle.partitioner.specs.Splits.{split_for}
-use Rattle.partitioner.proofs.Made.{one-le-product, is_split_for}
+use Rattle.partitioner.proofs.Made.{is_split_for, some_parts}
 use Rattle.partitioner.proofs.Ranges.{partition_of-below}
 use Rattle.chunk_model.specs.Chunks.{Chunk, IsChunkOf}
 use Rattle.chunk_model.specs.Layout.{edge_fits, holds_edge}
@@ -57,9 +57,6 @@ fits_it job edge is =
     ap (λ b. b && nat_lt edge.dst job.vertices && nat_le edge.weight MAX_WEIGHT) (lt-ltb edge.src job.vertices is.src)
     ∙ ap (λ b. b && nat_le edge.weight MAX_WEIGHT) (lt-ltb edge.dst job.vertices is.dst)
     ∙ le-leb edge.weight MAX_WEIGHT is.weight
-
-some_parts : (job : Job) → IsWellFormedJob job → 1 ≤ parts_of job
-some_parts job well = one-le-product job.engines _ well.engines.0 (omega arith)
 
 -- Each chunk of the job's edges is one.
 chunk_is : (job : Job) → IsWellFormedJob job → (c : Chunk Edge) → IsChunkOf job.chunk (home_of job) c → All (IsEdgeOf job) c.items → c.partition < parts_of job → IsEdgeChunk job.format (split_for job) job.chunk c

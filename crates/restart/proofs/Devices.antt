@@ -1,23 +1,12 @@
 -- Several devices, one after another.
-use Rattle.std.proofs.Common.{◌≡◌, ◌≢◌, ◌∙◌, ℕ, ◌+◌, ◌<◌, ◌≤◌, ◌==◌, Bool, true, false, List, Vec, Result, Ok, Err, OnErr, length, get_or, set, refl, ap, sym, subst, arith}
-use Rattle.std.proofs.lemmas.Bool.{eqb-true, eqb-false}
+use Rattle.std.proofs.Common.{◌≡◌, ◌∙◌, ℕ, ◌+◌, ◌<◌, ◌≤◌, List, Vec, Result, Ok, Err, OnErr, length, get_or, set, refl, ap, sym, subst, arith}
 use Rattle.std.specs.Vec.{with_items}
 use Rattle.std.proofs.lemmas.List.{get_or-set_same, get_or-set_other, get_or_default, length-set, with_items_is}
 use Rattle.ports.specs.Disk.{DiskState}
 use Rattle.ports.specs.Faults.{Rose}
-use Rattle.restart.specs.Devices.{OneRose, OneRowRose}
-
--- an entry after a write: the new one, or the old one
-at_set_by : {X : Type 0} (P : ℕ → X → Type 0) (xs : List X) (e k : ℕ) (new d : X) → e < length xs → (k ≡ e → P e new) → (k ≢ e → P k (get_or xs k d)) → (same : Bool) → (k == e) ≡ same → P k (get_or (set xs e new) k d)
-at_set_by P xs e k new d within here other true is =
-    let same : k ≡ e = eqb-true k e is in
-    subst (λ j. P j (get_or (set xs e new) j d)) (sym same) (subst (P e) (sym (get_or-set_same xs e new d within)) (here same))
-at_set_by P xs e k new d within here other false is =
-    let apart : k ≢ e = eqb-false k e is in
-    subst (P k) (sym (get_or-set_other xs e k new d apart)) (other apart)
-
-pub at_set : {X : Type 0} (P : ℕ → X → Type 0) (xs : List X) (e k : ℕ) (new d : X) → e < length xs → (k ≡ e → P e new) → (k ≢ e → P k (get_or xs k d)) → P k (get_or (set xs e new) k d)
-at_set P xs e k new d within here other = at_set_by P xs e k new d within here other (k == e) refl
+use Rattle.ports.specs.Devices.{OneRose}
+use Rattle.graph_model.proofs.ListLemmas.{at_set}
+use Rattle.restart.specs.Devices.{OneRowRose}
 
 -- The entries below a number have had their step and are now as they should be, and the others are as they were.
 pub record DoneBelow {X : Type 0} (R : X → X → Type 0) (Q : X → Type 0) (e : ℕ) (olds mids : List X) : Type 0 where
@@ -77,11 +66,6 @@ row_rose_here {X} {Z} state R Q w olds mids mid new within below rose = (
       subst (λ (x : Vec X Z). OneRose state (get_or olds w row).items x.items) (sym (get_or-set_same mids w new row within))
       (subst (λ (x : Vec X Z). OneRose state x.items new.items) (get_or_default mids w mid row within ∙ below.rest w row (omega arith)) rose),
 )
-
--- what is so is so on an Err
-pub on_err_so : {T E P : Type 0} (r : Result T E) → P → OnErr r P
-on_err_so (Ok x) p = tt
-on_err_so (Err e) p = p
 
 pub on_err_map : {T E P Q : Type 0} (r : Result T E) → (P → Q) → OnErr r P → OnErr r Q
 on_err_map (Ok x) f p = tt

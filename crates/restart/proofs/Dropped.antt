@@ -8,9 +8,9 @@ use Rattle.ports.specs.Disk.{DiskState, IsDisk, InEveryImage, After}
 use Rattle.ports.specs.Stops.{Leaves, LeavesByBeat, EachLeaves, EachImage, AreImages, IsStop}
 use Rattle.ports.proofs.Parts.{cut_same}
 use Rattle.ports.proofs.Stops.{weaker, by_beat, by_beat_weaker, in_turn, later_beat, started_by_beat, each_leaves, each_of_stop, each_image_weaker}
+use Rattle.ports.specs.Devices.{Each, OneRose}
 use Rattle.store_model.specs.Heads.{IsShutGraph}
 use Rattle.store_model.specs.Kept.{IsUnprepared}
-use Rattle.restart.specs.Devices.{Each, OneRose}
 use Rattle.restart.specs.Dropping.{IsAsBeforeOrShut, WhileDropped, WhileEmptied, Closes, Empties}
 
 -- a front of a graph device that is not open is not open

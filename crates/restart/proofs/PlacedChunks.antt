@@ -4,8 +4,8 @@ use Rattle.std.specs.List.{All, range_with_len, sum_by, enumerate_from}
 use Rattle.std.proofs.lemmas.Bool.{cases_eq, eq-eqb, ne_eqb}
 use Rattle.std.proofs.lemmas.List.Elements.{All-nil, All-cons, All-head, All-tail}
 use Rattle.std.proofs.lemmas.List.Sums.{sum_by_push}
-use Rattle.partitioner.proofs.Ranges.{range_with_len-more}
 use Rattle.seeded_place.specs.Placing.{engine_of, placed, on_engine}
+use Rattle.graph_model.proofs.ListLemmas.{range_with_len-more}
 
 -- sums over the first so many engines
 abbrev pub over : (ℕ → ℕ) → (count : ℕ) → ℕ
@@ -124,7 +124,3 @@ module _ {X : Type 0} (seed stream engines : ℕ) where
   pub length_on : ((k : ℕ) → engine_of seed stream engines k < engines) → (xs : List X) → over (λ e. length (on_engine e (placed seed stream engines xs))) engines ≡ length xs
   unfolding on_from
   length_on below xs = length_from below 0 xs
-
-pub engine_below : (seed stream engines k : ℕ) → 1 ≤ engines → engine_of seed stream engines k < engines
-unfolding engine_of
-engine_below seed stream engines k some = omega arith

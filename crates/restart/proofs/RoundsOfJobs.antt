@@ -10,6 +10,7 @@ use Rattle.graph_model.specs.Programs.{Rules, rules_of}
 use Rattle.graph_model.specs.Rounds.{values, Repeats, IsLastRound}
 use Rattle.graph_model.specs.Jobs.{IsWellFormedJob, IsWellFormedProgram}
 use Rattle.store_model.specs.Kept.{IsReached}
+use Rattle.store_checks.proofs.GoodHeads.{some_none}
 
 -- whether two lists of values are the same
 same_value : (x y : Value) → (x ≡ y) ⊎ (x ≢ y)
@@ -84,9 +85,6 @@ or_zero (Some k) = k
 some_same : (a b : ℕ) → ◌≡◌ {A = Option ℕ} (Some a) (Some b) → a ≡ b
 unfolding or_zero
 some_same a b same = ap or_zero same
-
-some_none : (a : ℕ) → ◌≡◌ {A = Option ℕ} (Some a) None → ⊥
-some_none a same = cc
 
 -- a job's last round, or that it has none, where the number of its rounds is fixed or not
 by_rounds : (job : Job) (edges : List Edge) (round : ℕ) (fixed : Option ℕ) → (rules_of job.program).rounds ≡ fixed → (fixed ≡ None ⊎ ((k : ℕ) × (fixed ≡ Some k) × (k ≤ 1000000)))

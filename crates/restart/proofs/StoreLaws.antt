@@ -9,6 +9,7 @@ use Rattle.chunk_model.specs.ChunkBytes.{starts_of}
 use Rattle.chunk_file.specs.declared.index.Place.{Place}
 use Rattle.chunk_file.specs.Places.{on_graph}
 use Rattle.seeded_place.specs.Placing.{edge_stream}
+use Rattle.seeded_place.proofs.Engines.{engine_below}
 use Rattle.store_model.specs.declared.field.Field.TheVariants.{Engines}
 use Rattle.store_model.specs.declared.field.TheConstants.{FIELDS}
 use Rattle.store_model.specs.Heads.{head, front, IsOpenGraph}
@@ -33,7 +34,7 @@ use Rattle.storage_engine.specs.Making.{HasPlaces}
 use Rattle.restart.specs.Resuming.{Resumes, HasCauseOfJob}
 use Rattle.restart.specs.Storable.{IsStorable}
 use Rattle.restart.proofs.HeadsOfJobs.{head_says, field_is_good, field_is_same, none_bad, same_job}
-use Rattle.restart.proofs.PlacedChunks.{over, over_same, none_on, engine_below}
+use Rattle.restart.proofs.PlacedChunks.{over, over_same, none_on}
 use Rattle.restart.proofs.StoredChunks.{graph_head, all_counted, found_chunks, no_stop}
 use Rattle.restart.proofs.StoredRounds.{own_said, none_over, values_pass, kept_is, changed_kept, fresh_is}
 

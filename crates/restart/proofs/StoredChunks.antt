@@ -20,10 +20,11 @@ use Rattle.store_model.specs.Kept.{device}
 use Rattle.store_model.specs.Damage.{value_of, IsEdgeChunk, NoEdgeChunk, BeginsWith, AreChunks, StopsAt, chunks_before, MOST_CHUNKS}
 use Rattle.store_model.proofs.Growing.{length-head}
 use Rattle.seeded_place.specs.Placing.{edge_stream}
+use Rattle.seeded_place.proofs.Engines.{engine_below}
 use Rattle.restart.specs.Storable.{IsStorable}
 use Rattle.restart.proofs.HeadsOfJobs.{head_says, parts_said}
 use Rattle.restart.proofs.ChunksOfJobs.{on_engine_are}
-use Rattle.restart.proofs.PlacedChunks.{over, over_more, over_same, over_le, length_on, engine_below}
+use Rattle.restart.proofs.PlacedChunks.{over, over_more, over_same, over_le, length_on}
 
 -- the chunks that one list begins with
 module _ {X : Type 0} (layout : Layout X) (laws : IsLayout layout) where

@@ -7,6 +7,7 @@ use Rattle.graph_model.specs.declared.edge.Edge.{Edge}
 use Rattle.graph_model.specs.declared.job.Job.{Job}
 use Rattle.graph_model.specs.Programs.{Rules}
 use Rattle.ports.specs.Disk.{DiskState, IsDisk}
+use Rattle.ports.specs.Devices.{MetersGoOn}
 use Rattle.partitioner.specs.declared.split.Split.{Split}
 use Rattle.partitioner.specs.Splits.{split_for}
 use Rattle.chunk_object.specs.Epochs.{Epoch}
@@ -18,7 +19,7 @@ use Rattle.store_reader.specs.declared.store.Outcome.{Outcome}
 use Rattle.store_reader.specs.declared.store.Outcome.TheVariants.{Done, DiskFault}
 use Rattle.phase_model.specs.JobTerms.{terms_of}
 use Rattle.round_steps.specs.Epochs.{IsWhole, HasFewChunks, ForRound}
-use Rattle.round_steps.specs.Going.{IsStore, KeepsStore, MetersGoOn, SomeRose, RowsTell}
+use Rattle.round_steps.specs.Going.{IsStore, KeepsStore, SomeRose, RowsTell}
 use Rattle.round_steps.specs.Standing.{IsSound, HaveEdges, HasEdges, StandsBefore, IsBefore}
 use Rattle.round_steps.specs.Rounds.{StoresRound, MakesEpochs, earlier_values}
 use Rattle.epoch_laws.specs.Phases.{Opens, updates_of, sending_in}
@@ -39,7 +40,7 @@ pub made_before_sent : (start : Start) → first_made start ≤ first_sent start
 made_before_sent Fresh = omega arith
 made_before_sent (At round changed) = omega arith
 
-sent_later : (start : Start) → 1 ≤ first_sent start
+pub sent_later : (start : Start) → 1 ≤ first_sent start
 sent_later Fresh = omega arith
 sent_later (At round changed) = omega arith
 

@@ -5,6 +5,7 @@ use Rattle.graph_model.specs.declared.edge.Edge.{Edge}
 use Rattle.graph_model.specs.declared.job.Job.{Job}
 use Rattle.graph_model.specs.Programs.{Rules}
 use Rattle.ports.specs.Disk.{DiskState, IsDisk}
+use Rattle.ports.specs.Devices.{MetersGoOn}
 use Rattle.partitioner.specs.declared.split.Split.{Split}
 use Rattle.chunk_object.specs.Epochs.{Epoch}
 use Rattle.chunk_file.specs.declared.index.Place.{Place}
@@ -14,7 +15,7 @@ use Rattle.store_reader.specs.declared.store.Outcome.TheVariants.{Done, DiskFaul
 use Rattle.epoch_seats.specs.Between.{IsBetweenEpochs}
 use Rattle.phase_model.specs.JobTerms.{terms_of}
 use Rattle.round_steps.specs.Epochs.{IsWhole, HasFewChunks}
-use Rattle.round_steps.specs.Going.{IsStore, KeepsStore, MetersGoOn, SomeRose}
+use Rattle.round_steps.specs.Going.{IsStore, KeepsStore, SomeRose}
 use Rattle.round_steps.specs.Standing.{IsSound, HaveEdges, HasEdges, StandsBefore, IsBefore}
 use Rattle.round_steps.specs.Rounds.{StoresRound, MakesFirst}
 use Rattle.round_loop.specs.declared.run.Start.TheVariants.{Fresh, At}

@@ -12,8 +12,8 @@ use Rattle.chunk_object.proofs.Covered.{count-cons}
 use Rattle.phase_core.proofs.Shelved.{is_chunk}
 use Rattle.phase_core.proofs.Drained.{count_taken}
 use Rattle.phase_model.specs.Taken.{taken, claims}
+use Rattle.phase_model.proofs.Lists.{claims-append}
 use Rattle.round_steps.specs.Epochs.{IsWhole, HasFewChunks}
-use Rattle.round_loop.proofs.Epochs.{claims_append}
 
 abbrev pub MOST : ℕ
 MOST = 2147483648
@@ -132,5 +132,5 @@ claims_of_all terms engines partitions [] whole few = omega arith
 claims_of_all terms engines partitions (x ∷ xs) whole few =
     let here : claims (all_calls x) ≤ 512 * MOST = claims_of_whole terms engines partitions x (All-head HasFewChunks x xs few) (All-head (IsWhole terms) x xs whole) in
     let rest : claims (flat_map all_calls xs) ≤ 512 * MOST * length xs = claims_of_all terms engines partitions xs (All-tail (IsWhole terms) x xs whole) (All-tail HasFewChunks x xs few) in
-    let both : claims (all_calls x ++ flat_map all_calls xs) ≡ claims (all_calls x) + claims (flat_map all_calls xs) = claims_append (all_calls x) (flat_map all_calls xs) in
+    let both : claims (all_calls x ++ flat_map all_calls xs) ≡ claims (all_calls x) + claims (flat_map all_calls xs) = claims-append (all_calls x) (flat_map all_calls xs) in
     omega (arith, here, rest, both)

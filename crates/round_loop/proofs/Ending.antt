@@ -9,6 +9,7 @@ use Rattle.graph_model.specs.Rounds.{IsUnsettled, IsLastRound}
 use Rattle.graph_model.proofs.RoundLemmas.{unsettled_has_no_last}
 use Rattle.ports.specs.Disk.{DiskState, IsDisk}
 use Rattle.ports.specs.Faults.{Rose}
+use Rattle.ports.specs.Devices.{MetersGoOn}
 use Rattle.chunk_object.specs.Epochs.{Epoch, all_calls}
 use Rattle.chunk_cursor.specs.declared.view.View.{View}
 use Rattle.chunk_file.specs.declared.index.Place.{Place}
@@ -21,7 +22,7 @@ use Rattle.phase_model.specs.JobTerms.{terms_of}
 use Rattle.phase_model.specs.Taken.{claims, admissions}
 use Rattle.std.specs.List.{flat_map}
 use Rattle.round_steps.specs.Epochs.{GoesThrough}
-use Rattle.round_steps.specs.Going.{IsStore, MetersGoOn, SomeRose}
+use Rattle.round_steps.specs.Going.{IsStore, SomeRose}
 use Rattle.round_steps.specs.Standing.{IsSound, HaveEdges}
 use Rattle.round_loop.specs.declared.run.Start.{Start}
 use Rattle.round_loop.specs.declared.run.Start.TheVariants as start_of
@@ -41,7 +42,7 @@ use Rattle.round_loop.proofs.Reaching.{ends_at_last, ends_unsettled}
 use Rattle.round_loop.proofs.Stopping.{none_yet}
 use Rattle.round_loop.proofs.Keeping.{kept_same, meters_same}
 use Rattle.round_loop.proofs.Epochs.{through_none}
-use Rattle.round_loop.proofs.Advancing.{made_before_sent}
+use Rattle.round_loop.proofs.Advancing.{made_before_sent, sent_later}
 
 -- Outcomes as faults.
 disk_fault_of : (outcome : Outcome) (fault : RoundFault) → IsFaultOf outcome fault → fault ≡ faulty.DiskFault → outcome ≡ outcomes.DiskFault
@@ -69,13 +70,9 @@ err_is a b is = cc
 same_round : (base first round r long : ℕ) → base + 2 * (round - 1 + 1 - first) < long → long ≤ base + 2 * (round + 1 - first) → base + 2 * (r - 1 + 1 - first) < long → long ≤ base + 2 * (r + 1 - first) → 1 ≤ round → 1 ≤ r → r ≡ round
 same_round base first round r long a b c d some later = omega arith
 
-no_epochs : (rules : Rules) (job : Job) (edges : List Edge) (counts : Bool) (first : ℕ) → AreEpochsOf rules job edges counts first []
+pub no_epochs : (rules : Rules) (job : Job) (edges : List Edge) (counts : Bool) (first : ℕ) → AreEpochsOf rules job edges counts first []
 no_epochs rules job edges true first = tt
 no_epochs rules job edges false first = tt
-
-sent_some : (start : Start) → 1 ≤ first_sent start
-sent_some start_of.Fresh = omega arith
-sent_some (start_of.At round changed) = omega arith
 
 module _ {D M : Type 0} (state : D → DiskState) (faults : M → ℕ) (rules : Rules) (job : Job) (start : Start) (index : List (List Place)) where
   module _ (done : Type 0) (round changed took helped : ℕ) (from new : Moment D M) (epochs : List Epoch) (come : HasCome state faults rules job start index done round changed took helped from new epochs) where
@@ -84,7 +81,7 @@ module _ {D M : Type 0} (state : D → DiskState) (faults : M → ℕ) (rules : 
       | inl early ↦ absurd (omega (arith, early, last.begun, come.most))
       | inr sent ↦
           let same : r ≡ round
-          = same_round (if counts_first rules start then 1 else 0) (first_sent start) round r (length epochs) (come.begun sent) come.most last.begun last.within (omega (arith, sent, sent_some start)) last.later in
+          = same_round (if counts_first rules start then 1 else 0) (first_sent start) round r (length epochs) (come.begun sent) come.most last.begun last.within (omega (arith, sent, sent_later start)) last.later in
           subst (λ k. StandsAfter rules job edges state start (k - 1) from.store.values.items new.store.values.items) (sym same) (well.behind sent)
     ]
 

@@ -9,10 +9,10 @@ use Rattle.epoch_seats.specs.Between.{IsBetweenEpochs}
 use Rattle.graph_model.specs.declared.edge.Edge.{Edge}
 use Rattle.graph_model.specs.declared.job.Job.{Job}
 use Rattle.graph_model.specs.Programs.{Rules}
-use Rattle.chunk_object.specs.declared.call.Call.{Call}
 use Rattle.chunk_object.specs.Epochs.{Terms, Epoch, epoch_entries, epochs_entries, all_calls}
 use Rattle.chunk_cursor.specs.declared.view.View.{View}
-use Rattle.phase_model.specs.Taken.{taken_in, taken, claims, is_admission, admissions}
+use Rattle.phase_model.specs.Taken.{claims, is_admission, admissions}
+use Rattle.phase_model.proofs.Lists.{claims-append}
 use Rattle.round_steps.specs.Epochs.{IsWhole, WholeButLast, GoesThrough, ForFirst, ForRound}
 use Rattle.round_loop.specs.Opening.{OpensEdges, OpensUpdates, OpensRounds, AreEpochsOf, sends_changed}
 
@@ -28,9 +28,6 @@ entries_append terms s (x ∷ xs) ys =
 pub calls_append : (xs ys : List Epoch) → flat_map all_calls (xs ++ ys) ≡ flat_map all_calls xs ++ flat_map all_calls ys
 calls_append xs ys = flat_map-append all_calls xs ys
 
-pub claims_append : (a b : List Call) → claims (a ++ b) ≡ claims a + claims b
-claims_append a b = ap length (flat_map-append taken_in a b) ∙ length-append (taken a) (taken b)
-
 -- two runs of epochs, one behind the other
 pub through_then : (terms : Terms) (first mid last : View) (took helped more_took more_helped : ℕ) (xs ys : List Epoch) → GoesThrough terms first mid took helped xs → GoesThrough terms mid last more_took more_helped ys →
     GoesThrough terms first last (took + more_took) (helped + more_helped) (xs ++ ys)
@@ -42,7 +39,7 @@ through_then terms first mid last took helped more_took more_helped xs ys one tw
   held = two.held ∙ one.held;
   between = two.between;
   whole = λ stands. two.whole (one.whole stands);
-  claims_are = both one.claims_are two.claims_are ∙ sym (claims_append (flat_map all_calls xs) (flat_map all_calls ys)) ∙ ap claims (sym (calls_append xs ys));
+  claims_are = both one.claims_are two.claims_are ∙ sym (claims-append (flat_map all_calls xs) (flat_map all_calls ys)) ∙ ap claims (sym (calls_append xs ys));
   admissions_are = both one.admissions_are two.admissions_are ∙ sym (count_by-append is_admission (flat_map all_calls xs) (flat_map all_calls ys)) ∙ ap admissions (sym (calls_append xs ys));
 }
   where

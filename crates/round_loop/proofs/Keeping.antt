@@ -1,20 +1,15 @@
 -- Devices, meters and counts from one step to the next.
-use Rattle.std.proofs.Common.{◌≡◌, ℕ, ◌≤◌, List, Vec, length, get_or, inl, inr, refl, ◌∙◌, arith}
+use Rattle.std.proofs.Common.{◌≡◌, ℕ, List, Vec, length, get_or, inl, inr, refl, ◌∙◌, arith}
 use Rattle.std.specs.Global.{Global}
 use Rattle.ports.specs.Disk.{DiskState}
-use Rattle.ports.specs.Faults.{Rose}
+use Rattle.ports.proofs.Faults.{count_rose_before, count_rose_after}
+use Rattle.ports.specs.Devices.{OneRose, MetersGoOn}
 use Rattle.store_reader.specs.declared.store.Store.{Store}
-use Rattle.update_lanes.specs.Lanes.{GoOn, OneRose}
+use Rattle.update_lanes.specs.Lanes.{GoOn}
 use Rattle.partitioner.specs.declared.split.Split.{Split}
-use Rattle.round_steps.specs.Going.{MetersGoOn, Tell, RowsTell, RowsGoOn, KeepsStore, SomeRose}
+use Rattle.round_steps.specs.Going.{Tell, RowsTell, KeepsStore, SomeRose}
+use Rattle.scatter_epoch.specs.Scattering.{RowsGoOn}
 use Rattle.round_loop.specs.Keeping.{AreLater, AreLaterRows, Keeps, IsTold}
-
--- a count that rose, before or after others go on
-rose_then : (a b c : ℕ) → Rose a b → b ≤ c → Rose a c
-rose_then a b c rose later = omega (arith, rose)
-
-later_rose : (a b c : ℕ) → a ≤ b → Rose b c → Rose a c
-later_rose a b c later rose = grind (arith, rose)
 
 module _ {D : Type 0} (state : D → DiskState) where
   same_devices : (xs : List D) → AreLater state xs xs
@@ -35,11 +30,11 @@ module _ {D : Type 0} (state : D → DiskState) where
 
   rose_before : (xs ys zs : List D) → OneRose state xs ys → AreLater state ys zs → length ys ≡ length xs → OneRose state xs zs
   rose_before xs ys zs rose later many =
-      (rose.0, rose.1, λ d. rose_then (state (get_or xs rose.0 d)).faults (state (get_or ys rose.0 d)).faults (state (get_or zs rose.0 d)).faults (rose.2 d) (later.faults rose.0 d (omega (arith, rose.1, many))))
+      (rose.0, rose.1, λ d. count_rose_after (state (get_or xs rose.0 d)).faults (state (get_or ys rose.0 d)).faults (state (get_or zs rose.0 d)).faults (rose.2 d) (later.faults rose.0 d (omega (arith, rose.1, many))))
 
   rose_after : (xs ys zs : List D) → AreLater state xs ys → OneRose state ys zs → OneRose state xs zs
   rose_after xs ys zs later rose =
-      (rose.0, omega (arith, rose.1, later.many), λ d. later_rose (state (get_or xs rose.0 d)).faults (state (get_or ys rose.0 d)).faults (state (get_or zs rose.0 d)).faults (later.faults rose.0 d (omega (arith, rose.1, later.many))) (rose.2 d))
+      (rose.0, omega (arith, rose.1, later.many), λ d. count_rose_before (state (get_or xs rose.0 d)).faults (state (get_or ys rose.0 d)).faults (state (get_or zs rose.0 d)).faults (later.faults rose.0 d (omega (arith, rose.1, later.many))) (rose.2 d))
 
   same_rows : (xs : List (Vec D Global)) → AreLaterRows state xs xs
   same_rows xs = record { many = refl; each = λ w row within. same_devices (get_or xs w row).items }
@@ -96,7 +91,7 @@ module _ {D M : Type 0} (state : D → DiskState) where
     -- what rose in a later step rose since the beginning
     pub rose_since : (old mid new : Store D M) (xs ys zs : List M) → Keeps state old mid → MetersGoOn faults xs ys → SomeRose state faults mid new ys zs → SomeRose state faults old new xs zs
     rose_since old mid new xs ys zs keeps meters rose = elim rose [
-      | inl meter ↦ inl (meter.0, omega (arith, meter.1, meters.many), λ m. later_rose (faults (get_or xs meter.0 m)) (faults (get_or ys meter.0 m)) (faults (get_or zs meter.0 m)) (meters.later meter.0 m (omega (arith, meter.1, meters.many))) (meter.2 m))
+      | inl meter ↦ inl (meter.0, omega (arith, meter.1, meters.many), λ m. count_rose_before (faults (get_or xs meter.0 m)) (faults (get_or ys meter.0 m)) (faults (get_or zs meter.0 m)) (meters.later meter.0 m (omega (arith, meter.1, meters.many))) (meter.2 m))
       | inr device ↦ elim device [
         | inl values ↦ inr (inl (rose_after state old.values.items mid.values.items new.values.items keeps.values values))
         | inr more ↦ elim more [

@@ -6,11 +6,12 @@ use Rattle.graph_model.specs.declared.job.Job.{Job}
 use Rattle.graph_model.specs.Programs.{Rules}
 use Rattle.ports.specs.Disk.{DiskState}
 use Rattle.ports.specs.Stops.{LeavesByBeat}
+use Rattle.ports.specs.Devices.{MetersGoOn}
 use Rattle.chunk_object.specs.Epochs.{Epoch}
 use Rattle.chunk_file.specs.declared.index.Place.{Place}
 use Rattle.phase_model.specs.JobTerms.{terms_of}
 use Rattle.round_steps.specs.Epochs.{IsWhole, WholeButLast, HasFewChunks, GoesThrough}
-use Rattle.round_steps.specs.Going.{IsStore, MetersGoOn, IsOpenEverywhere}
+use Rattle.round_steps.specs.Going.{IsStore, IsOpenEverywhere}
 use Rattle.round_steps.specs.Standing.{HasEdges}
 use Rattle.round_loop.specs.declared.run.Start.{Start}
 use Rattle.round_loop.specs.declared.course.Progress.{Progress}

@@ -7,13 +7,14 @@ use Rattle.graph_model.specs.Programs.{Rules}
 use Rattle.graph_model.specs.Rounds.{IsLastRound, IsUnsettled}
 use Rattle.ports.specs.Disk.{DiskState}
 use Rattle.ports.specs.Stops.{LeavesByBeat}
+use Rattle.ports.specs.Devices.{MetersGoOn}
 use Rattle.chunk_object.specs.Epochs.{Epoch, all_calls}
 use Rattle.chunk_file.specs.declared.index.Place.{Place}
 use Rattle.phase_model.specs.JobTerms.{terms_of}
 use Rattle.phase_model.specs.Taken.{claims, admissions}
 use Rattle.store_reader.specs.declared.store.Part.{Part}
 use Rattle.round_steps.specs.Epochs.{IsWhole, WholeButLast, GoesThrough}
-use Rattle.round_steps.specs.Going.{IsStore, MetersGoOn, SomeRose, IsOpenEverywhere}
+use Rattle.round_steps.specs.Going.{IsStore, SomeRose, IsOpenEverywhere}
 use Rattle.round_steps.specs.Standing.{HaveEdges, HasEdges}
 use Rattle.round_loop.specs.declared.run.Start.{Start}
 use Rattle.round_loop.specs.declared.run.Done.{Done}

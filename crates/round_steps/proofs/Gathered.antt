@@ -29,9 +29,10 @@ use Rattle.gather_epoch.specs.declared.crew.Gathered.{Gathered}
 use Rattle.gather_epoch.specs.Gathering.{HasGatheredBy, HaveGathered}
 use Rattle.epoch_laws.specs.Phases.{counted, gathered, merged_over}
 use Rattle.apply_round.specs.Made.{AreMerged}
+use Rattle.list_moves.proofs.Desks.{some_of}
 use Rattle.round_steps.specs.Crews.{LieWithin}
 use Rattle.round_steps.specs.Standing.{IsSound}
-use Rattle.round_steps.proofs.Counts.{any_of, HasBytes}
+use Rattle.round_steps.proofs.Counts.{HasBytes}
 use Rattle.round_steps.proofs.Merging.{merge_is}
 
 -- where the lowest outcome is Done each worker is done
@@ -50,7 +51,7 @@ module _ {P D G M : Type 0} (rules : P → Rules) (state : D → DiskState) (fau
   module _ (before after : View) (meters meters' : List M) (spills spills' : List D) (replicas : List Replicas) (result : Gathered) (law : EachIsDone) (many : length meters ≡ c.serving.job.now.engines) (have : HaveGathered rules state faults c before after meters meters' spills spills' replicas result) (done : result.outcome ≡ Done) where
     pub each_gathered : (w : ℕ) (d : D) (r : Replicas) → w < c.serving.job.now.engines → HasGatheredBy rules state c (slice_index_or replicas w r) (slice_index_or spills' w d) (list_of have.epoch w)
     each_gathered w d r below =
-        let m : M = any_of meters w (omega (arith, below)) in
+        let m : M = some_of meters w (omega (arith, below)) in
         (have.each w m d r Done below).gathered (law have.outcomes (sym have.outcome_is ∙ done) w Done (omega (arith, below, have.many)))
 
     pub all_within : length replicas ≡ c.serving.job.now.engines → LieWithin state replicas spills'
@@ -66,7 +67,7 @@ module _ {P D G M : Type 0} (rules : P → Rules) (state : D → DiskState) (fau
         let same : (v : ℕ) → own v ≡ counted shelf v = λ v. fun_ext (λ calls. sym (degrees.counted v (records_taken (records_at shelf) calls))) in
         merge_is c.serving.split.now own (rules c.program.now) replicas bytes.all (map (λ d. (state d).bytes) spills') have.epoch.lists (out_degree edges) (replicas_many ∙ sym workers) (bytes.many ∙ spills_many ∙ sym workers) bytes.are
         (λ partition below w r within.
-        let d : D = any_of spills' w (omega (arith, within)) in
+        let d : D = some_of spills' w (omega (arith, within)) in
         (each_gathered w d r (omega (arith, within))).counted counting (records_at shelf) stand (slice_index_or bytes.all w []) (bytes.each w d (omega (arith, within))) partition below)
         (λ v. ap (λ f. merged (rules c.program.now) (map f have.epoch.lists)) (same v) ∙ all_counted v)
 
@@ -78,7 +79,7 @@ module _ {P D G M : Type 0} (rules : P → Rules) (state : D → DiskState) (fau
         let workers : length have.epoch.lists ≡ c.serving.job.now.engines = have.made.begins.workers in
         merge_is c.serving.split.now (gathered (rules c.program.now) shelf) (rules c.program.now) replicas bytes.all (map (λ d. (state d).bytes) spills') have.epoch.lists (λ v. merged_over (rules c.program.now) (gathered (rules c.program.now) shelf v) have.epoch) (replicas_many ∙ sym workers) (bytes.many ∙ spills_many ∙ sym workers) bytes.are
         (λ partition below w r within.
-        let d : D = any_of spills' w (omega (arith, within)) in
+        let d : D = some_of spills' w (omega (arith, within)) in
         (each_gathered w d r (omega (arith, within))).summed gathers (records_at shelf) stand (slice_index_or bytes.all w []) (bytes.each w d (omega (arith, within))) partition below)
         (λ v. refl)
 

@@ -14,9 +14,9 @@ use Rattle.store_model.specs.Slots.{slot_of, slot_values, values_bytes}
 use Rattle.store_reader.specs.Reading.{own_in, master_in}
 use Rattle.scatter_phase.specs.Values.{HoldValues, HoldBefore, told_of}
 use Rattle.apply_round.specs.Made.{share_of}
+use Rattle.list_moves.proofs.Desks.{some_of}
 use Rattle.round_steps.specs.Rounds.{earlier_values}
 use Rattle.round_steps.specs.Standing.{StandsBefore, ValuesStand}
-use Rattle.round_steps.proofs.Counts.{any_of}
 use Rattle.round_steps.proofs.Sets.{set_stands}
 
 module _ {D : Type 0} (state : D → DiskState) (split : Split) (devices : List D) (many : length devices ≡ split.engines) (some : 1 ≤ split.engines) where
@@ -32,7 +32,7 @@ module _ {D : Type 0} (state : D → DiskState) (split : Split) (devices : List 
     stand = λ p below.
         let e : ℕ = master_in split p in
         let within : e < split.engines = mod-lt p some in
-        let d : D = any_of devices e (omega arith) in
+        let d : D = some_of devices e (omega arith) in
         let at : ShareIn slot all e (state (slice_index_or devices e d)).bytes = each e d within in
         let told : told_of state split devices p ≡ Some at.read =
         ap (option_and_then (λ (disk : D). (state disk).bytes)) (slice_get-get_or devices e d (omega arith)) ∙ at.told in

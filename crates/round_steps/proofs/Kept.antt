@@ -10,19 +10,21 @@ use Rattle.partitioner.specs.declared.split.Split.{Split}
 use Rattle.ports.specs.Disk.{DiskState, IsDisk}
 use Rattle.ports.proofs.Stops.{started}
 use Rattle.ports.proofs.Told.{as_told_same}
+use Rattle.ports.specs.Devices.{OneRose, MetersGoOn}
 use Rattle.graph_model.specs.Rounds.{values}
 use Rattle.chunk_cursor.specs.declared.view.View.{View}
 use Rattle.chunk_file.specs.declared.index.Place.{Place}
 use Rattle.store_model.specs.Slots.{slot_of}
 use Rattle.store_reader.specs.Reading.{own_in}
 use Rattle.store_reader.specs.declared.store.Store.{Store}
-use Rattle.update_lanes.specs.Lanes.{GoOn, OneRose}
+use Rattle.update_lanes.specs.Lanes.{GoOn}
 use Rattle.checkpoint.specs.SlotStates.{SameOther}
 use Rattle.replica_merge.specs.declared.replicas.Replicas.{Replicas}
 use Rattle.replica_merge.specs.Accumulators.{split_of}
 use Rattle.apply_round.specs.Made.{AreMerged}
+use Rattle.scatter_epoch.specs.Scattering.{RowsGoOn}
 use Rattle.round_steps.specs.Crews.{LieWithin}
-use Rattle.round_steps.specs.Going.{AreDevices, AreRows, MetersGoOn, MeterRose, RowsGoOn, KeepsOthers, IsStore}
+use Rattle.round_steps.specs.Going.{AreDevices, AreRows, MeterRose, KeepsOthers, IsStore}
 use Rattle.round_steps.specs.Standing.{StandsBefore, ValuesStand, HasEdges}
 use Rattle.round_steps.specs.Rounds.{StoresRound, MakesFirst, MakesEpochs}
 

@@ -8,6 +8,7 @@ use Rattle.graph_model.specs.Rounds.{values}
 use Rattle.gather_laws.specs.Laws.{HaveRoom}
 use Rattle.ports.specs.Disk.{DiskState}
 use Rattle.ports.specs.Faults.{Rose}
+use Rattle.ports.specs.Devices.{OneRose}
 use Rattle.chunk_cursor.specs.declared.view.View.{View}
 use Rattle.chunk_model.specs.Layout.{edge_layout}
 use Rattle.chunk_file.specs.declared.index.Place.{Place}
@@ -17,7 +18,6 @@ use Rattle.store_model.specs.Slots.{slot_of}
 use Rattle.store_reader.specs.declared.store.Outcome.{Outcome}
 use Rattle.store_reader.specs.declared.store.Outcome.TheVariants.{Done, DiskFault, Damaged, Memory}
 use Rattle.store_reader.specs.Indexed.{HasRecords}
-use Rattle.update_lanes.specs.Lanes.{OneRose}
 use Rattle.scatter_phase.specs.declared.desk.ScatterContext.{ScatterContext}
 use Rattle.scatter_phase.specs.Phases.{MayStopBy}
 use Rattle.scatter_phase.specs.Values.{HoldValues, HoldBefore}
@@ -25,11 +25,12 @@ use Rattle.scatter_epoch.specs.declared.crew.Scattered.{Scattered}
 use Rattle.scatter_epoch.specs.Scattering as scattering
 use Rattle.scatter_epoch.specs.Scattering.{HaveScattered, RoseOfOne}
 use Rattle.epoch_laws.specs.Phases.{edge_shelf, sending_in, sent_in}
-use Rattle.round_steps.specs.Going.{AreDevices, AreRows, RowsGoOn, RowRose, MeterRose}
+use Rattle.list_moves.proofs.Desks.{some_of}
+use Rattle.round_steps.specs.Going.{AreDevices, AreRows, RowRose, MeterRose}
 use Rattle.round_steps.specs.Rounds.{earlier_values}
 use Rattle.round_steps.specs.Standing.{IsSound, HasEdges}
 use Rattle.round_steps.specs.Updates.{Scatters}
-use Rattle.round_steps.proofs.Counts.{any_of, at_any}
+use Rattle.round_steps.proofs.Counts.{at_any}
 use Rattle.round_steps.proofs.Holding.{hold_last, hold_earlier}
 
 module _ {D : Type 0} (state : D → DiskState) where
@@ -41,16 +42,13 @@ module _ {D : Type 0} (state : D → DiskState) where
         record { many = devices.all; beats = λ e d within. devices.beats e d (omega (arith, within, devices.all)) };
   }
 
-  pub rows_go_on : (number : ℕ) (old new : List (Vec D Global)) → scattering.RowsGoOn state number old new → RowsGoOn state number old new
-  rows_go_on number old new goes_on = record { many = goes_on.many; each = goes_on.each }
-
 module _ {D M : Type 0} (state : D → DiskState) (faults : M → ℕ) (engines : ℕ) (meters meters' : List M) (rows rows' : List (Vec D Global)) where
   pub row_rose : length meters ≡ engines → length meters' ≡ engines → length rows ≡ engines → length rows' ≡ engines → RoseOfOne state faults engines meters meters' rows rows' → MeterRose faults meters meters' ⊎ RowRose state rows rows'
   row_rose many many' rows_many rows_many' one =
       let w : ℕ = one.0 in
       let below : w < engines = one.1 in
-      let m : M = any_of meters w (omega arith) in
-      let row : Vec D Global = any_of rows w (omega arith) in
+      let m : M = some_of meters w (omega arith) in
+      let row : Vec D Global = some_of rows w (omega arith) in
       elim (one.2 m row) as (λ _. MeterRose faults meters meters' ⊎ RowRose state rows rows') [
         | inl meter ↦ inl (w, omega arith, λ e. at_any (λ x y. Rose (faults x) (faults y)) meters meters' w m e (omega arith) (omega arith) meter)
         | inr lane ↦ inr (w, omega arith, λ e. at_any (λ (x y : Vec D Global). OneRose state x.items y.items) rows rows' w row e (omega arith) (omega arith) lane)

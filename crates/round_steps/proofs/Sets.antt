@@ -8,9 +8,9 @@ use Rattle.std.specs.List.{range_with_len}
 use Rattle.graph_model.specs.declared.value.Value.{Value}
 use Rattle.graph_model.specs.Partitions.{first_vertex, part_len, master_of, parts_of_master, vertices_in}
 use Rattle.graph_model.specs.Rounds.{value_at}
+use Rattle.graph_model.proofs.ListLemmas.{range_with_len-append}
 use Rattle.partitioner.specs.declared.split.Split.{Split}
 use Rattle.partitioner.proofs.Owned.{own_before-fits}
-use Rattle.partitioner.proofs.Ranges.{range_with_len-append}
 use Rattle.ports.specs.Bytes.{bytes_at}
 use Rattle.ports.proofs.Parts.{bytes_at-within}
 use Rattle.store_model.specs.Kept.{values_of}

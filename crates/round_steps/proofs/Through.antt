@@ -1,13 +1,12 @@
 -- The seat goes through epochs, one after the other.
-use Rattle.std.proofs.Common.{◌≡◌, ℕ, ◌+◌, List, [], ◌∷◌, ◌++◌, length, flat_map, sym, ◌∙◌, ap, subst, arith, append_assoc, length-append}
+use Rattle.std.proofs.Common.{◌≡◌, ℕ, ◌+◌, List, [], ◌∷◌, ◌++◌, sym, ◌∙◌, ap, subst, arith, append_assoc}
 use Rattle.std.proofs.lemmas.List.{append-nil}
-use Rattle.std.proofs.lemmas.List.Concat.{flat_map-append}
 use Rattle.chunk_object.proofs.Covered.{count_by-append}
-use Rattle.chunk_object.specs.declared.call.Call.{Call}
 use Rattle.chunk_object.specs.Epochs.{Terms, Epoch, all_calls, epoch_entries, epochs_entries}
 use Rattle.chunk_object.specs.History.{StandsWhole}
 use Rattle.chunk_cursor.specs.declared.view.View.{View}
-use Rattle.phase_model.specs.Taken.{claims, admissions, taken_in, is_admission}
+use Rattle.phase_model.specs.Taken.{claims, admissions, is_admission}
+use Rattle.phase_model.proofs.Lists.{claims-append}
 use Rattle.epoch_seats.specs.Between.{IsBetweenEpochs}
 use Rattle.epoch_seats.specs.Made.{HasMadeEpoch}
 use Rattle.round_steps.specs.Epochs.{GoesThrough}
@@ -35,9 +34,6 @@ through_one terms lens IsThrough before after took helped epoch made = record {
   claims_are = made.claims_are ∙ ap claims (sym (append-nil (all_calls epoch)));
   admissions_are = made.admissions_are ∙ ap admissions (sym (append-nil (all_calls epoch)));
 }
-
-claims-append : (xs ys : List Call) → claims (xs ++ ys) ≡ claims xs + claims ys
-claims-append xs ys = ap length (flat_map-append taken_in xs ys) ∙ length-append (flat_map taken_in xs) (flat_map taken_in ys)
 
 -- two, one after the other
 pub through_two : (terms : Terms) (before mid after : View) (took helped took' helped' took_all helped_all : ℕ) (first second : Epoch) → GoesThrough terms before mid took helped (first ∷ []) → GoesThrough terms mid after took' helped' (second ∷ []) →

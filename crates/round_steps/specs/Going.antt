@@ -5,18 +5,15 @@ use Rattle.ports.specs.Disk.{DiskState, IsSettled, InEveryImage}
 use Rattle.ports.specs.Faults.{Rose}
 use Rattle.ports.specs.Stops.{Leaves}
 use Rattle.ports.specs.Told.{AsTold}
+use Rattle.ports.specs.Devices.{OneRose}
 use Rattle.partitioner.specs.declared.split.Split.{Split}
 use Rattle.store_model.specs.Slots.{device_size, slot_of}
 use Rattle.store_reader.specs.Reading.{own_in}
 use Rattle.store_reader.specs.declared.store.Store.{Store}
-use Rattle.update_lanes.specs.Lanes.{GoOn, OneRose}
+use Rattle.update_lanes.specs.Lanes.{GoOn}
 use Rattle.checkpoint.specs.SlotStates.{SameOther, IsOpenWith}
 use Rattle.checkpoint.specs.Storing.{KeepsOther}
-
--- counts that never fall
-pub record MetersGoOn {M : Type 0} (faults : M → ℕ) (old new : List M) : Type 0 where
-  pub many : length new ≡ length old
-  pub later : (w : ℕ) (m : M) → w < length old → faults (slice_index_or old w m) ≤ faults (slice_index_or new w m)
+use Rattle.scatter_epoch.specs.Scattering.{RowsGoOn}
 
 -- that of one of them rose
 abbrev pub MeterRose : {M : Type 0} → (M → ℕ) → (old new : List M) → Type 0
@@ -39,11 +36,6 @@ module _ {D : Type 0} (state : D → DiskState) where
 
   abbrev pub RowsTell : List (Vec D Global) → Type 0
   RowsTell rows = (w : ℕ) (row : Vec D Global) → w < length rows → Tell (slice_index_or rows w row).items
-
-  -- the rows of lanes go on, each lane in its place
-  pub record RowsGoOn (number : ℕ) (old new : List (Vec D Global)) : Type 0 where
-    pub many : length new ≡ length old
-    pub each : (w : ℕ) (row : Vec D Global) → w < length old → GoOn state number (slice_index_or old w row).items (slice_index_or new w row).items
 
   -- the count of one lane rose
   abbrev pub RowRose : (old new : List (Vec D Global)) → Type 0

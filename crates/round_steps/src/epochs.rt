@@ -8,11 +8,12 @@ ghost use Rattle.partitioner.specs.Splits.{IsSplit, IsSplitOf};
 ghost use Rattle.chunk_object.specs.History.{most_chunks};
 ghost use Rattle.replica_merge.specs.Accumulators.{split_of, unit_of, IsUnspilled};
 ghost use Rattle.store_reader.specs.Indexed.{lens_of};
-ghost use Rattle.update_lanes.specs.Lanes.{GoOn, OneRose};
+ghost use Rattle.update_lanes.specs.Lanes.{GoOn};
 ghost use Rattle.epoch_seats.specs.Between.{IsBetweenEpochs};
 ghost use Rattle.apply_round.specs.Made.{AreMerged};
+ghost use Rattle.ports.specs.Devices.{OneRose, MetersGoOn};
 ghost use Rattle.round_steps.specs.Crews.{AreCrews, LieWithin};
-ghost use Rattle.round_steps.specs.Going.{AreDevices, MetersGoOn, MeterRose, Tell};
+ghost use Rattle.round_steps.specs.Going.{AreDevices, MeterRose, Tell};
 ghost use Rattle.round_steps.specs.Standing.{IsSound, HaveEdges, HasEdges};
 ghost use Rattle.round_steps.specs.Rounds.{MakesFirst, HasSums};
 

@@ -6,8 +6,9 @@ ghost use Rattle.partitioner.specs.Splits.{IsSplit, IsSplitOf};
 ghost use Rattle.chunk_object.specs.History.{most_chunks};
 ghost use Rattle.store_reader.specs.Indexed.{lens_of};
 ghost use Rattle.epoch_seats.specs.Between.{IsBetweenEpochs};
+ghost use Rattle.ports.specs.Devices.{MetersGoOn};
 ghost use Rattle.round_steps.specs.Crews.{AreCrews};
-ghost use Rattle.round_steps.specs.Going.{MetersGoOn, IsStore, KeepsStore, SomeRose, RowsTell};
+ghost use Rattle.round_steps.specs.Going.{IsStore, KeepsStore, SomeRose, RowsTell};
 ghost use Rattle.round_steps.specs.Standing.{IsSound, HaveEdges, IsBefore};
 ghost use Rattle.round_steps.specs.Rounds.{StoresRound, MakesEpochs};
 

@@ -6,12 +6,12 @@ ghost use Rattle.partitioner.specs.Splits.{IsSplit, IsSplitOf};
 ghost use Rattle.graph_model.specs.Jobs.{IsWellFormedJob};
 ghost use Rattle.store_model.specs.Slots.{device_size};
 ghost use Rattle.store_reader.specs.Reading.{own_in};
-ghost use Rattle.update_lanes.specs.Lanes.{OneRose};
 ghost use Rattle.apply_round.specs.Made.{AreMerged, made};
 ghost use Rattle.replica_merge.specs.Accumulators.{split_of};
 ghost use Rattle.apply_round.specs.Crew.{IsCrewOf};
+ghost use Rattle.ports.specs.Devices.{OneRose, MetersGoOn};
 ghost use Rattle.round_steps.specs.Crews.{LieWithin};
-ghost use Rattle.round_steps.specs.Going.{AreDevices, KeepsOthers, MetersGoOn, MeterRose};
+ghost use Rattle.round_steps.specs.Going.{AreDevices, KeepsOthers, MeterRose};
 ghost use Rattle.round_steps.specs.Standing.{IsSound, StandsBefore};
 ghost use Rattle.round_steps.specs.Rounds.{StoresRound};
 

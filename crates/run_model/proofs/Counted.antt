@@ -1,14 +1,12 @@
 -- What the report of a run counts.
-use Rattle.std.proofs.Common.{◌≡◌, ◌∙◌, ℕ, ◌+◌, ◌<◌, ◌≤◌, List, length, map, Some, refl, ap, subst, arith}
+use Rattle.std.proofs.Common.{◌≡◌, ◌∙◌, ℕ, ◌<◌, ◌≤◌, List, length, map, Some, refl, ap, subst, arith}
 use Rattle.std.specs.Prelude.{slice_get}
 use Rattle.std.specs.List.{sum_by, range_with_len}
 use Rattle.std.proofs.lemmas.Option.{slice_get-get_or}
 use Rattle.std.proofs.lemmas.List.FromFn.{get_or-map-range_with_len, length-map-range_with_len}
-use Rattle.std.proofs.lemmas.List.Sums.{sum_by_push}
 use Rattle.graph_model.specs.declared.edge.Edge.{Edge}
 use Rattle.graph_model.specs.declared.job.Job.{Job}
 use Rattle.graph_model.specs.Jobs.{IsWellFormedJob, parts_of}
-use Rattle.partitioner.proofs.Ranges.{range_with_len-more}
 use Rattle.chunk_file.specs.declared.index.Place.{Place}
 use Rattle.chunk_file.specs.Places.{places_of}
 use Rattle.store_model.specs.Graphs.{edge_chunks, chunks_on}
@@ -22,10 +20,6 @@ use Rattle.run_model.specs.Telling.{count_on, counts_of, report_of, ending_of, C
 
 pub same_report : (a b : Report) → Answered a ≡ Answered b → a ≡ b
 same_report a b same = cc
-
--- one partition more
-pub sum_next : (f : ℕ → ℕ) (k : ℕ) → sum_by f (range_with_len 0 (k + 1)) ≡ sum_by f (range_with_len 0 k) + f k
-sum_next f k = ap (sum_by f) (range_with_len-more k) ∙ sum_by_push f (range_with_len 0 k) k
 
 module _ (job : Job) (edges : List Edge) (index : List (List Place)) (well : IsWellFormedJob job)
     (counted : (parts : ℕ) → parts_of job ≤ parts → parts ≤ 64 → (e : ℕ) → e < 8 → sum_by (λ p. length (places_of index e p)) (range_with_len 0 parts) ≡ length (chunks_on job e (edge_chunks job edges))) where

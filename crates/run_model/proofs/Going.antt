@@ -9,10 +9,10 @@ use Rattle.std.proofs.lemmas.List.Elements.{All-nil, All-get_or, All-from_get_or
 use Rattle.ports.specs.Disk.{DiskState}
 use Rattle.ports.specs.Faults.{Rose}
 use Rattle.ports.proofs.Told.{told_on}
-use Rattle.update_lanes.specs.Lanes.{OneRose}
+use Rattle.ports.specs.Devices.{OneRose, MetersGoOn}
 use Rattle.storage_engine.specs.Steps.{Any, IsLater}
 use Rattle.store_reader.specs.declared.store.Store.{Store}
-use Rattle.round_steps.specs.Going.{AreDevices, AreRows, MetersGoOn, MeterRose, RowRose, SomeRose}
+use Rattle.round_steps.specs.Going.{AreDevices, AreRows, MeterRose, RowRose, SomeRose}
 use Rattle.round_steps.proofs.Kept.{meter_rose_later}
 use Rattle.round_loop.specs.Keeping.{AreLater, AreLaterRows, Keeps}
 use Rattle.run_model.specs.Calls.{StoreGoesOn}

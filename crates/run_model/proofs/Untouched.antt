@@ -1,19 +1,18 @@
 -- A call that has made no round: what it printed, and what the seat went through.
-use Rattle.std.proofs.Common.{◌≡◌, ℕ, Bool, true, false, List, [], Option, refl, sym, subst, arith, append-nil}
+use Rattle.std.proofs.Common.{◌≡◌, ℕ, List, [], Option, sym, subst, append-nil}
 use Rattle.ports.specs.Disk.{DiskState}
 use Rattle.ports.specs.Sink.{Appends}
 use Rattle.ports.proofs.Told.{as_told_same}
 use Rattle.graph_model.specs.declared.edge.Edge.{Edge}
 use Rattle.graph_model.specs.declared.job.Job.{Job}
-use Rattle.graph_model.specs.Programs.{Rules, rules_of}
-use Rattle.chunk_object.specs.Epochs.{Terms}
+use Rattle.graph_model.specs.Programs.{rules_of}
 use Rattle.chunk_cursor.specs.declared.view.View.{View}
 use Rattle.phase_model.specs.JobTerms.{terms_of}
 use Rattle.epoch_seats.specs.Between.{IsBetweenEpochs}
-use Rattle.round_steps.specs.Epochs.{GoesThrough}
 use Rattle.round_loop.specs.declared.run.Start.{Start}
 use Rattle.round_loop.specs.Starts.{counts_first, first_sent}
-use Rattle.round_loop.specs.Opening.{AreEpochsOf}
+use Rattle.round_loop.proofs.Ending.{no_epochs}
+use Rattle.round_loop.proofs.Epochs.{through_none}
 use Rattle.endings.specs.declared.ending.Report.{Report}
 use Rattle.endings.specs.declared.ending.Ending.{Ending}
 use Rattle.endings.specs.declared.ending.Ending.TheVariants.{Answered}
@@ -29,22 +28,6 @@ prints_none old new is = subst (λ after. Prints old after []) (sym is) (as_told
 pub prints_nothing : {D M : Type 0} (state : D → DiskState) (job : Job) (call : Call D M) → call.out_after ≡ call.out → PrintsNothing state job call
 prints_nothing state job call same = prints_none call.out call.out_after same
 
--- no epoch was opened
-none_opened : (rules : Rules) (job : Job) (graph : List Edge) (counts : Bool) (first : ℕ) → AreEpochsOf rules job graph counts first []
-none_opened rules job graph true first = tt
-none_opened rules job graph false first = tt
-
-through_none : (terms : Terms) (v : View) → IsBetweenEpochs v → GoesThrough terms v v 0 0 []
-through_none terms v between = record {
-  story = sym (append-nil v.story);
-  splits = omega arith;
-  held = refl;
-  between = between;
-  whole = λ stands. stands;
-  claims_are = refl;
-  admissions_are = refl;
-}
-
 module _ (job : Job) (ending : Ending) (not_complete : IsComplete ending → ⊥) where
   not_answered : (report : Report) → ending ≡ Answered report → ⊥
   not_answered report is = not_complete (subst IsComplete (sym is) tt)
@@ -59,7 +42,7 @@ module _ (job : Job) (ending : Ending) (not_complete : IsComplete ending → ⊥
 
   pub none_of_job : (graph : List Edge) (start : Start) → AreJobEpochs job graph start ending []
   none_of_job graph start = record {
-    are = none_opened (rules_of job.program) job graph (counts_first (rules_of job.program) start) (first_sent start);
+    are = no_epochs (rules_of job.program) job graph (counts_first (rules_of job.program) start) (first_sent start);
     last = λ report is. absurd (not_answered report is);
     all = λ report is. absurd (not_answered report is);
     all_written = λ is last is_last. absurd (not_complete (subst IsComplete (sym is) tt));

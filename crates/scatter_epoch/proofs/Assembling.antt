@@ -1,5 +1,5 @@
 -- From what each desk came to, to what all workers have done.
-use Rattle.std.proofs.Common.{◌≡◌, ◌≢◌, ℕ, ◌-◌, ◌^◌, ◌<◌, ◌≤◌, min, List, [], ◌∷◌, map, length, get_or, ap, sym, ◌∙◌, subst, ◌⊎◌, inl, inr, ⊎_elim, arith}
+use Rattle.std.proofs.Common.{◌≡◌, ◌≢◌, ℕ, ◌-◌, ◌^◌, ◌<◌, ◌≤◌, min, List, [], map, length, get_or, ap, sym, ◌∙◌, subst, ◌⊎◌, inl, inr, ⊎_elim, arith}
 use Rattle.std.specs.Prelude.{Vec}
 use Rattle.std.specs.Global.{Global}
 use Rattle.std.specs.List.{All, range_with_len, sum_by}
@@ -8,6 +8,7 @@ use Rattle.std.proofs.lemmas.List.FromFn.{get_or-range_with_len}
 use Rattle.graph_model.specs.Programs.{Rules}
 use Rattle.ports.specs.Disk.{DiskState}
 use Rattle.ports.specs.Faults.{Rose}
+use Rattle.ports.specs.Devices.{OneRose, MetersGoOn}
 use Rattle.chunk_object.specs.History.{most_chunks}
 use Rattle.chunk_object.specs.Epochs.{Terms, list_of}
 use Rattle.chunk_object.specs.Duty.{IsDutiful, BeginsDutiful}
@@ -20,7 +21,7 @@ use Rattle.worker_duty.specs.Views.{calls_of, MayWork}
 use Rattle.store_reader.specs.declared.store.Outcome.{Outcome}
 use Rattle.store_reader.specs.declared.store.Outcome.TheVariants.{Done, DiskFault, Memory}
 use Rattle.store_reader.specs.Indexed.{lens_of}
-use Rattle.update_lanes.specs.Lanes.{IsWithin, GoOn, OneRose}
+use Rattle.update_lanes.specs.Lanes.{IsWithin, GoOn}
 use Rattle.scatter_phase.specs.declared.desk.ScatterContext.{ScatterContext}
 use Rattle.scatter_phase.specs.declared.desk.ScatterDesk.{ScatterDesk}
 use Rattle.scatter_phase.specs.declared.desk.ScatterRoom.{ScatterRoom}
@@ -35,30 +36,12 @@ use Rattle.epoch_seats.specs.Seats.{IsSeatOf, AreNewSeats, AreSeats, epoch_with}
 use Rattle.epoch_seats.specs.Made.{HasMadeEpoch}
 use Rattle.epoch_seats.proofs.Keeping.{own_still, calls_are}
 use Rattle.epoch_seats.proofs.Made.{IsPart, list_is, is_made}
+use Rattle.list_moves.proofs.Desks.{some_of, at_desk, same_len, listed}
 use Rattle.scatter_epoch.specs.Desks.{IsReady, HasWorkedAt}
 use Rattle.scatter_epoch.specs.Dealing.{seat_at, meter_at, lanes_at, places_on, room_at, number_at, outcome_at, claims_at, admitted_at, AreDealt}
-use Rattle.scatter_epoch.specs.Scattering.{AreRows, RowsGoOn, CountsGoOn, SomeRose, RoseOfOne, HasScatteredAs, HaveScattered}
+use Rattle.scatter_epoch.specs.Scattering.{AreRows, RowsGoOn, SomeRose, RoseOfOne, HasScatteredAs, HaveScattered}
 use Rattle.scatter_epoch.specs.Sent.{HaveSent}
 use Rattle.scatter_epoch.specs.declared.crew.Scattered.{Scattered}
-
--- an entry of a list that has one there
-pub some_of : {X : Type 0} (list : List X) (w : ℕ) → w < length list → X
-some_of [] w below = absurd (omega arith)
-some_of (x ∷ list) w below = x
-
--- what stands at a desk is what stands in its list
-pub at_desk : {X Y : Type 0} (f : X → Y) (desks : List X) (list : List Y) → map f desks ≡ list → (w : ℕ) (d : X) (e : Y) → w < length desks → f (get_or desks w d) ≡ get_or list w e
-at_desk f desks list are w d e below = sym (get_or-map f desks w d e below) ∙ ap (λ l. get_or l w e) are
-
-pub same_len : {X Y : Type 0} (f : X → Y) (desks : List X) (list : List Y) → map f desks ≡ list → length list ≡ length desks
-same_len f desks list are = sym (ap (λ l. length l) are) ∙ length-map desks f
-
--- what holds of each desk holds of each entry of its list
-pub listed : {X Y : Type 0} (f : X → Y) (P : Y → Type 0) (desks : List X) (list : List Y) → map f desks ≡ list → ((w : ℕ) (d : X) → w < length desks → P (f (get_or desks w d))) → All P list
-listed f P desks list are each w e below =
-    let within : w < length desks = omega (arith, same_len f desks list are) in
-    let d = some_of desks w within in
-    subst P (at_desk f desks list are w d e within) (each w d within)
 
 module _ {P D G M : Type 0} (rules : P → Rules) (state : D → DiskState) (faults : M → ℕ) (c : ScatterContext P D G M) where
   abbrev the_terms : Terms
@@ -224,7 +207,7 @@ module _ {P D G M : Type 0} (rules : P → Rules) (state : D → DiskState) (fau
           let own = own_outcome lowest.0 below lowest.1 in
           subst (MayStopBy rules state c) own ((worked lowest.0 (desk lowest.0 below) (within lowest.0 below)).stopped (λ through. not (sym own ∙ through)))
 
-      pub counts_go_on : CountsGoOn faults meters meters'
+      pub counts_go_on : MetersGoOn faults meters meters'
       counts_go_on = record {
         many = same_len meter_at done meters' back.meters_are ∙ (all ∙ sym (same_len meter_at desks meters dealt.meters_are));
         later = λ w m below.

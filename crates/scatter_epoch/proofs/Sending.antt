@@ -45,6 +45,7 @@ use Rattle.scatter_phase.specs.declared.desk.ScatterContext.{ScatterContext}
 use Rattle.scatter_phase.specs.declared.desk.ScatterDesk.{ScatterDesk}
 use Rattle.scatter_phase.specs.Scattered.{HasScattered}
 use Rattle.scatter_phase.specs.Values.{HoldValues, HoldBefore}
+use Rattle.list_moves.proofs.Desks.{some_of}
 use Rattle.scatter_epoch.specs.Joining.{places_at, all_places, IsIndexOf}
 use Rattle.scatter_epoch.specs.Dealing.{seat_at, lanes_at, places_on, number_at}
 use Rattle.scatter_epoch.specs.Desks.{IsContext}
@@ -52,7 +53,6 @@ use Rattle.scatter_epoch.specs.Sent.{RowsTell, IsOfRows, HaveSent}
 use Rattle.scatter_epoch.proofs.Pairs.{Paired, paired-length, paired-at}
 use Rattle.scatter_epoch.proofs.Walks.{chunk_stands, all_at}
 use Rattle.scatter_epoch.proofs.Workers.{IsGood, shelf_good, chunk_is, EachWorker, each_weaker, paired_all, IsWorker, paired_worker, none_far, lanes_below}
-use Rattle.scatter_epoch.proofs.Assembling.{some_of}
 
 first_below : {A : Type 0} (x : A) (xs : List A) → 0 < length (x ∷ xs)
 first_below x xs = omega arith

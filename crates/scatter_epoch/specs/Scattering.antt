@@ -1,9 +1,10 @@
 -- What the workers of a scatter epoch have done.
-use Rattle.std.specs.Prelude.{◌≡◌, ◌≢◌, ◌⊎◌, ℕ, ◌<◌, ◌≤◌, List, length, slice_index_or, Vec}
+use Rattle.std.specs.Prelude.{◌≡◌, ◌≢◌, ◌⊎◌, ℕ, ◌<◌, List, length, slice_index_or, Vec}
 use Rattle.std.specs.Global.{Global}
 use Rattle.graph_model.specs.Programs.{Rules}
 use Rattle.ports.specs.Disk.{DiskState}
 use Rattle.ports.specs.Faults.{Rose}
+use Rattle.ports.specs.Devices.{OneRose}
 use Rattle.chunk_object.specs.declared.call.Call.{Call}
 use Rattle.chunk_object.specs.Epochs.{Epoch, list_of}
 use Rattle.chunk_object.specs.Duty.{IsDutiful}
@@ -13,7 +14,7 @@ use Rattle.chunk_file.specs.declared.index.Place.{Place}
 use Rattle.store_reader.specs.declared.store.Outcome.{Outcome}
 use Rattle.store_reader.specs.declared.store.Outcome.TheVariants.{Done, DiskFault, Memory}
 use Rattle.store_reader.specs.Indexed.{lens_of}
-use Rattle.update_lanes.specs.Lanes.{GoOn, OneRose}
+use Rattle.update_lanes.specs.Lanes.{GoOn}
 use Rattle.scatter_phase.specs.declared.desk.ScatterContext.{ScatterContext}
 use Rattle.scatter_phase.specs.Rooms.{AreLanes}
 use Rattle.scatter_phase.specs.Phases.{MayStopBy}
@@ -32,11 +33,6 @@ module _ {D : Type 0} (state : D → DiskState) where
   pub record RowsGoOn (number : ℕ) (old new : List (Vec D Global)) : Type 0 where
     pub many : length new ≡ length old
     pub each : (w : ℕ) (row : Vec D Global) → w < length old → GoOn state number (slice_index_or old w row).items (slice_index_or new w row).items
-
--- counts that never fall
-pub record CountsGoOn {M : Type 0} (faults : M → ℕ) (old new : List M) : Type 0 where
-  pub many : length new ≡ length old
-  pub later : (w : ℕ) (m : M) → w < length old → faults (slice_index_or old w m) ≤ faults (slice_index_or new w m)
 
 module _ {D M : Type 0} (state : D → DiskState) (faults : M → ℕ) where
   -- the count of a worker's meter or of one of its lanes rose

@@ -5,10 +5,11 @@ ghost use Rattle.phase_model.specs.declared.placed.Placed.{Placed as PlacedOf};
 ghost use Rattle.update_lanes.specs.Lanes.{IsWithin};
 ghost use Rattle.scatter_phase.specs.Phases.{MayStopBy};
 ghost use Rattle.epoch_seats.specs.Between.{IsBetweenEpochs};
+ghost use Rattle.ports.specs.Devices.{MetersGoOn};
 ghost use Rattle.scatter_epoch.specs.Crews.{IsCrew};
 ghost use Rattle.scatter_epoch.specs.Joining.{IsIndexOf};
 ghost use Rattle.scatter_epoch.specs.Desks.{IsContext, IsReady, HasWorkedAt};
-ghost use Rattle.scatter_epoch.specs.Scattering.{AreRows, RowsGoOn, CountsGoOn, RoseOfOne, HaveScattered};
+ghost use Rattle.scatter_epoch.specs.Scattering.{AreRows, RowsGoOn, RoseOfOne, HaveScattered};
 
 use crate::crew::{ScatterCrew, Scattered};
 use crate::index::index_places;
@@ -45,7 +46,7 @@ pub fn scatter_all<R: Threads + Sync, P: VertexProgram, D: Disk, G: Gate + Sync>
     ensures table { seat.new.table ≡ seat.old.table }
     ensures between { IsBetweenEpochs seat.new.view }
     ensures crew { IsCrew context.now.serving.job.now crew.new }
-    ensures meters { CountsGoOn D.M.faults meters.old.items meters.new.items }
+    ensures meters { MetersGoOn D.M.faults meters.old.items meters.new.items }
     ensures lanes { RowsGoOn D.state context.now.beat.now lanes.old.items lanes.new.items }
     ensures room { (vec_capacity meters.old ≤ vec_capacity meters.new) × (vec_capacity lanes.old ≤ vec_capacity lanes.new) }
     ensures few { (result.claims ≤ 1099511627776) × (result.admitted ≤ 512) }

@@ -8,7 +8,7 @@ use Rattle.ports.specs.Told.{AsTold}
 use Rattle.ports.proofs.Told.{told_on}
 use Rattle.update_lanes.specs.Lanes.{HasChunks, GoOn}
 use Rattle.update_lanes.proofs.GoingOn.{goes_on, stays}
-use Rattle.update_lanes.proofs.Written.{at_set}
+use Rattle.graph_model.proofs.ListLemmas.{at_set}
 
 -- the lanes below q are empty
 pub record AreEmptied {X : Type 0} (state : X → DiskState) (number q : ℕ) (old new : List X) : Type 0 where

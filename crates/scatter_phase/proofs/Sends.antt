@@ -1,5 +1,5 @@
 -- What the edges of a chunk send under the values of their partition is what they send under those of all vertices.
-use Rattle.std.proofs.Common.{◌≡◌, ℕ, ◌+◌, ◌-◌, ◌/◌, ◌<◌, ◌≤◌, Bool, cond, Option, Some, None, List, [], ◌∷◌, ◌++◌, length, take, refl, sym, ◌∙◌, ap, subst, arith, nat_lt}
+use Rattle.std.proofs.Common.{◌≡◌, ℕ, ◌+◌, ◌-◌, ◌<◌, ◌≤◌, Bool, cond, Option, Some, None, List, [], ◌∷◌, ◌++◌, length, take, refl, sym, ◌∙◌, ap, subst, arith, nat_lt}
 use Rattle.std.specs.Prelude.{◌&&◌, Result, Ok, Err, IfErr, OnOk, OnErr}
 use Rattle.std.specs.List.{All}
 use Rattle.std.proofs.lemmas.Bool.{and_parts, ltb-true}
@@ -10,36 +10,28 @@ use Rattle.graph_model.specs.declared.edge.Edge.{Edge}
 use Rattle.graph_model.specs.declared.value.Value.{Value}
 use Rattle.graph_model.specs.declared.value.Update.{Update}
 use Rattle.graph_model.specs.Programs.{Rules}
-use Rattle.graph_model.specs.Partitions.{first_vertex, part_len, partition_of}
-use Rattle.graph_model.specs.Rounds.{value_at}
+use Rattle.graph_model.specs.Partitions.{first_vertex}
+use Rattle.graph_model.specs.Rounds.{value_at, differs}
 use Rattle.ports.specs.Disk.{DiskState}
+use Rattle.ports.specs.Devices.{OneRose}
 use Rattle.partitioner.specs.declared.split.Split.{Split}
 use Rattle.partitioner.specs.Splits.{IsSplit}
-use Rattle.partitioner.proofs.Made.{some_part}
-use Rattle.partitioner.proofs.Ranges.{partition_of-in_range}
+use Rattle.partitioner.proofs.Ranges.{in_partition}
 use Rattle.chunk_model.specs.Layout.{edge_layout}
 use Rattle.chunk_model.specs.ChunkBytes.{Belongs}
 use Rattle.chunk_file.specs.Chunks.{AreChunkIn}
-use Rattle.phase_model.specs.Sends.{Sending, differs, update_to, sent_along, sent_by, sending_of}
+use Rattle.phase_model.specs.Sends.{Sending, update_to, sent_along, sent_by, sending_of}
 use Rattle.store_reader.specs.Reading.{len_in}
 use Rattle.phase_model.specs.declared.placed.Placed.{Placed}
 use Rattle.update_lanes.specs.declared.lanes.LaneFault.{LaneFault}
 use Rattle.update_lanes.specs.declared.lanes.LaneFault.TheVariants.{DiskFault}
 use Rattle.update_lanes.specs.declared.outgoing.Outgoing.{Outgoing}
-use Rattle.update_lanes.specs.Lanes.{OneRose}
 use Rattle.update_lanes.specs.Outgoing.{SendsOn, StopsOn}
 use Rattle.update_lanes.specs.Sending.{IsFrom, AreChanges, value_from, sending_all}
 use Rattle.scatter_phase.specs.declared.desk.ScatterRoom.{ScatterRoom}
 use Rattle.scatter_phase.specs.Values.{values_in, HoldValues, HoldBefore}
 use Rattle.scatter_phase.specs.Phases.{IsSet, IsSetBefore, AreMarkedSince}
 use Rattle.scatter_phase.specs.Sending.{sending_from, sending_in}
-
--- a vertex of a partition is in its range
-in_partition : (split : Split) (p v : ℕ) → IsSplit split → v < split.vertices → v / split.span ≡ p → (first_vertex split.vertices split.parts p ≤ v) × (v < first_vertex split.vertices split.parts p + part_len split.vertices split.parts p)
-in_partition split p v is below home =
-    let here : partition_of split.vertices split.parts v ≡ p = ap (λ span. v / span) (sym is.span) ∙ home in
-    let range = partition_of-in_range split.vertices split.parts v p (some_part split is) below here in
-    (range.0, omega (arith, range.0, range.1))
 
 -- the edges of a chunk come from its partition
 pub edges_from : (split : Split) (format most p : ℕ) (es : List Edge) → IsSplit split → AreChunkIn (edge_layout format) split most p es → All (IsFrom (first_vertex split.vertices split.parts p) (len_in split p) split.vertices) es

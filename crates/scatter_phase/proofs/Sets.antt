@@ -16,6 +16,7 @@ use Rattle.ports.specs.Disk.{DiskState}
 use Rattle.partitioner.specs.declared.split.Split.{Split}
 use Rattle.partitioner.specs.Splits.{IsSplit, IsSplitOf}
 use Rattle.store_model.specs.Slots.{value_bytes, values_bytes, set_bytes}
+use Rattle.store_model.proofs.SlotLemmas.{length-value_bytes}
 use Rattle.store_reader.specs.Reading.{own_in, master_in, len_in, before_in}
 use Rattle.scatter_phase.specs.Values.{values_in, HoldValues}
 use Rattle.scatter_phase.specs.Phases.{IsSet}
@@ -23,10 +24,6 @@ use Rattle.scatter_phase.specs.Phases.{IsSet}
 -- the numbers of a value are below 2^64
 abbrev pub Fits : Value → Type 0
 Fits v = (v.main < 2 ^ 64) × (v.side < 2 ^ 64)
-
-length-value_bytes : (value : Value) → length (value_bytes value) ≡ 16
-unfolding value_bytes
-length-value_bytes value = refl
 
 module _ (a b : Value) (fits_a : Fits a) (fits_b : Fits b) where
   same_numbers : (m n : ℕ) → m < 2 ^ 64 → n < 2 ^ 64 → to_be_bytes w64 m ≡ to_be_bytes w64 n → m ≡ n

@@ -1,5 +1,5 @@
 -- What a worker has sent, chunk by chunk.
-use Rattle.std.proofs.Common.{◌≡◌, ◌≢◌, ℕ, ◌+◌, ◌*◌, ◌<◌, ◌≤◌, Some, None, List, [], ◌∷◌, ◌++◌, length, map, inl, inr, ◌⊎◌, ⊎_elim, refl, sym, ◌∙◌, ap, subst, arith, length-append, append-nil}
+use Rattle.std.proofs.Common.{◌≡◌, ◌≢◌, ℕ, ◌+◌, ◌*◌, ◌<◌, ◌≤◌, Some, None, List, [], ◌∷◌, ◌++◌, length, inl, inr, ◌⊎◌, ⊎_elim, refl, sym, ◌∙◌, ap, subst, arith, length-append, append-nil}
 use Rattle.std.specs.List.{All}
 use Rattle.std.proofs.lemmas.Grind.{flat_map-append}
 use Rattle.graph_model.specs.declared.edge.Edge.{Edge}
@@ -8,10 +8,11 @@ use Rattle.graph_model.specs.declared.job.Job.{Job}
 use Rattle.graph_model.specs.Programs.{Rules}
 use Rattle.ports.specs.Disk.{DiskState}
 use Rattle.ports.specs.Faults.{Rose}
+use Rattle.ports.proofs.Faults.{count_rose_before, count_rose_after}
+use Rattle.ports.specs.Devices.{OneRose}
 use Rattle.partitioner.specs.declared.split.Split.{Split}
 use Rattle.partitioner.specs.Splits.{IsSplitOf}
 use Rattle.chunk_object.specs.declared.call.Call.{Call}
-use Rattle.chunk_object.specs.declared.call.Entry.{Entry}
 use Rattle.chunk_cursor.specs.declared.view.View.{View}
 use Rattle.chunk_cursor.specs.View.{with_calls, MayTake}
 use Rattle.chunk_model.specs.Layout.{edge_layout}
@@ -22,7 +23,7 @@ use Rattle.phase_model.specs.Taken.{taken, records_of}
 use Rattle.phase_model.proofs.Lists.{records_of-append}
 use Rattle.store_reader.specs.Indexed.{IsServing, HasRecords}
 use Rattle.update_lanes.specs.declared.outgoing.Outgoing.{Outgoing}
-use Rattle.update_lanes.specs.Lanes.{GoOn, OneRose, IsWithin}
+use Rattle.update_lanes.specs.Lanes.{GoOn, IsWithin}
 use Rattle.update_lanes.specs.Outgoing.{HasRoom, HasSent, IsSameRoom, SendsOn, StopsOn}
 use Rattle.update_lanes.proofs.GoingOn.{goes_on, rose_before, rose_since}
 use Rattle.update_lanes.proofs.Sends.{length-sent_by}
@@ -32,6 +33,7 @@ use Rattle.worker_duty.specs.declared.acts.Step.TheVariants as step
 use Rattle.worker_duty.specs.Views.{taken_by_seat, IsReady}
 use Rattle.worker_duty.specs.Working.{HasTaken, HasClaimed}
 use Rattle.worker_duty.proofs.Elsewhere.{taken-more}
+use Rattle.worker_duty.proofs.Beginnings.{nothing_taken}
 use Rattle.store_reader.specs.declared.store.Outcome.TheVariants.{Done, DiskFault}
 use Rattle.scatter_phase.specs.declared.desk.ScatterContext.{ScatterContext}
 use Rattle.scatter_phase.specs.declared.desk.ScatterDesk.{ScatterDesk}
@@ -42,9 +44,6 @@ use Rattle.scatter_phase.specs.Scattered.{HasFaultCause}
 use Rattle.scatter_phase.specs.Sending.{KeepsBuffers, sending_in, HasSentFor}
 use Rattle.scatter_phase.proofs.Counts.{no_more, one_more, within_as}
 use Rattle.scatter_phase.proofs.Sends.{edges_from, sends_as_all}
-
-pub nothing_taken : (v : View) → v.story ≡ [] → taken_by_seat v ≡ []
-nothing_taken v none = ap (λ (story : List Entry). taken (map (λ (e : Entry). e.call) story)) none
 
 -- a room in which something was sent
 pub room_after : (job : Job) (old new : ScatterRoom) → KeepsBuffers old new → IsSameRoom old.outgoing new.outgoing → HasRoom new.outgoing → IsRoom job old → IsRoom job new
@@ -65,12 +64,6 @@ marks_kept split p old new kept marked =
     subst (λ v. AreMarked split p v.items new.now.items new.changed.items) (sym kept.before)
     (subst (λ v. AreMarked split p old.before.items v.items new.changed.items) (sym kept.now) (subst (λ v. AreMarked split p old.before.items old.now.items v.items) (sym kept.changed) marked))
 
-later_rose : (a b d : ℕ) → a ≤ b → Rose b d → Rose a d
-later_rose a b d later rose = omega (arith, later, rose)
-
-rose_later : (a b d : ℕ) → Rose a b → b ≤ d → Rose a d
-rose_later a b d rose later = omega (arith, rose, later)
-
 -- a desk that goes on twice
 pub goes_on_then : {D M : Type 0} (state : D → DiskState) (faults : M → ℕ) (number : ℕ) (a b d : ScatterDesk D M) → GoesOn state faults number a b → GoesOn state faults number b d → GoesOn state faults number a d
 goes_on_then state faults number a b d x y = record {
@@ -79,8 +72,8 @@ goes_on_then state faults number a b d x y = record {
   reads = omega (arith, x.reads, y.reads);
   lanes = goes_on state number a.lanes.items b.lanes.items d.lanes.items x.lanes y.lanes;
   caused = λ is. ⊎_elim
-      (λ middle. ⊎_elim (λ first. inl first) (λ rose. inr (⊎_elim (λ read. inl (rose_later (faults a.meter) (faults b.meter) (faults d.meter) read y.reads)) (λ lane. inr (rose_before state number a.lanes.items b.lanes.items d.lanes.items x.lanes.many lane y.lanes)) rose)) (x.caused middle))
-      (λ rose. inr (⊎_elim (λ read. inl (later_rose (faults a.meter) (faults b.meter) (faults d.meter) x.reads read)) (λ lane. inr (rose_since state number a.lanes.items b.lanes.items d.lanes.items x.lanes lane)) rose))
+      (λ middle. ⊎_elim (λ first. inl first) (λ rose. inr (⊎_elim (λ read. inl (count_rose_after (faults a.meter) (faults b.meter) (faults d.meter) read y.reads)) (λ lane. inr (rose_before state number a.lanes.items b.lanes.items d.lanes.items x.lanes.many lane y.lanes)) rose)) (x.caused middle))
+      (λ rose. inr (⊎_elim (λ read. inl (count_rose_before (faults a.meter) (faults b.meter) (faults d.meter) x.reads read)) (λ lane. inr (rose_since state number a.lanes.items b.lanes.items d.lanes.items x.lanes lane)) rose))
       (y.caused is);
 }
 

@@ -8,6 +8,7 @@ use Rattle.graph_model.specs.declared.job.Job.{Job}
 use Rattle.graph_model.specs.Programs.{Rules}
 use Rattle.ports.specs.Disk.{DiskState}
 use Rattle.ports.specs.Faults.{Rose}
+use Rattle.ports.specs.Devices.{OneRose}
 use Rattle.partitioner.specs.declared.split.Split.{Split}
 use Rattle.chunk_model.specs.Layout.{edge_layout}
 use Rattle.phase_model.specs.declared.placed.Placed.{Placed}
@@ -18,7 +19,7 @@ use Rattle.store_reader.specs.declared.store.Outcome.TheVariants.{Done, DiskFaul
 use Rattle.store_reader.specs.declared.store.Part.TheVariants.{Graph}
 use Rattle.store_reader.specs.Indexed.{HasRecords}
 use Rattle.store_reader.specs.Reading.{len_in}
-use Rattle.update_lanes.specs.Lanes.{AreReady, GoOn, OneRose, IsWithin}
+use Rattle.update_lanes.specs.Lanes.{AreReady, GoOn, IsWithin}
 use Rattle.update_lanes.specs.Outgoing.{HasSent, NoneFull}
 use Rattle.update_lanes.specs.Sending.{AreChanges}
 use Rattle.scatter_phase.specs.declared.desk.ScatterContext.{ScatterContext}

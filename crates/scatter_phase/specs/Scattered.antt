@@ -7,6 +7,7 @@ use Rattle.graph_model.specs.declared.value.Update.{Update}
 use Rattle.graph_model.specs.Programs.{Rules}
 use Rattle.ports.specs.Disk.{DiskState}
 use Rattle.ports.specs.Faults.{Rose}
+use Rattle.ports.specs.Devices.{OneRose}
 use Rattle.chunk_model.specs.Layout.{edge_layout}
 use Rattle.phase_model.specs.Lanes.{update_shelf}
 use Rattle.phase_model.specs.Sends.{sent_by, sending_of}
@@ -14,7 +15,7 @@ use Rattle.phase_model.specs.Taken.{records_taken}
 use Rattle.worker_duty.specs.Views.{calls_of}
 use Rattle.store_reader.specs.declared.store.Outcome.TheVariants.{DiskFault}
 use Rattle.store_reader.specs.Indexed.{HasRecords}
-use Rattle.update_lanes.specs.Lanes.{AreWritten, OneRose, places_in}
+use Rattle.update_lanes.specs.Lanes.{AreWritten, places_in}
 use Rattle.update_lanes.specs.Outgoing.{FitsJob}
 use Rattle.scatter_phase.specs.declared.desk.ScatterContext.{ScatterContext}
 use Rattle.scatter_phase.specs.declared.desk.ScatterDesk.{ScatterDesk}

@@ -1,6 +1,7 @@
 //! Lanes that are emptied.
 ghost use Rattle.std.specs.Prelude.{ℕ, ◌<◌, [], length, slice_index_or, OnOk, OnErr};
-ghost use Rattle.update_lanes.specs.Lanes.{HasChunks, GoOn, OneRose};
+ghost use Rattle.update_lanes.specs.Lanes.{HasChunks, GoOn};
+ghost use Rattle.ports.specs.Devices.{OneRose};
 ghost use Rattle.scatter_phase.specs.Rooms.{AreLanes};
 
 use ports::{Beat, Disk, Failed};

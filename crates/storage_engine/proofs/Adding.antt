@@ -1,14 +1,14 @@
 -- One edge more: it waits, or it fills a chunk.
-use Rattle.std.proofs.Common.{◌≡◌, ◌∙◌, ℕ, zero, suc, ◌+◌, ◌*◌, ◌/◌, ◌<◌, ◌≤◌, max, true, List, [], ◌∷◌, ◌++◌, length, set, refl, ap, sym, subst, arith}
+use Rattle.std.proofs.Common.{◌≡◌, ◌∙◌, ℕ, ◌+◌, ◌/◌, ◌<◌, ◌≤◌, true, List, [], ◌∷◌, ◌++◌, length, set, ap, sym, subst, arith}
 use Rattle.std.specs.List.{All}
 use Rattle.std.proofs.lemmas.List.{append-nil, length-append, get_or-set_same}
 use Rattle.std.proofs.lemmas.List.Elements.{All-append, All-cons, All-nil}
 use Rattle.graph_model.specs.declared.edge.Edge.{Edge}
 use Rattle.graph_model.specs.declared.job.Job.{Job}
-use Rattle.graph_model.specs.Partitions.{ceil_div}
 use Rattle.graph_model.specs.Jobs.{IsWellFormedJob, parts_of, span_of}
-use Rattle.partitioner.proofs.Made.{one-le-product}
+use Rattle.graph_model.proofs.ListLemmas.{at_set, set-twice}
 use Rattle.partitioner.proofs.Ranges.{span_positive, partition_of-below}
+use Rattle.partitioner.proofs.Made.{some_parts}
 use Rattle.chunk_model.specs.Chunks.{full_chunks}
 use Rattle.chunk_model.specs.Layout.{holds_edge}
 use Rattle.chunk_model.proofs.Waiting.{item_kept, item_fills, full_chunks-more}
@@ -18,11 +18,6 @@ use Rattle.ports.specs.Disk.{DiskState}
 use Rattle.store_model.specs.Graphs.{home_of}
 use Rattle.storage_engine.specs.Making.{HasMade, IsMaking, chunk_with}
 use Rattle.storage_engine.specs.Waiting.{no_edges, waiting, with_edge}
-use Rattle.storage_engine.proofs.Every.{at_set}
-
--- a job has partitions, and each vertex is in one
-pub some_parts : (job : Job) → IsWellFormedJob job → 1 ≤ parts_of job
-some_parts job well = one-le-product job.engines (max 1 (ceil_div job.vertices (job.engines * job.most))) well.engines.0 (omega arith)
 
 pub some_span : (job : Job) (v : ℕ) → IsWellFormedJob job → v < job.vertices → 1 ≤ span_of job
 some_span job v well below = span_positive job.vertices (parts_of job) v (some_parts job well) below
@@ -37,11 +32,6 @@ waiting_with buffers p edge within = get_or-set_same buffers p (waiting buffers 
 pub held_with : (format : ℕ) (es : List Edge) (edge : Edge) → All (λ (e : Edge). holds_edge format e ≡ true) es → holds_edge format edge ≡ true → All (λ (e : Edge). holds_edge format e ≡ true) (es ++ edge ∷ [])
 held_with format es edge all one =
     All-append (λ (e : Edge). holds_edge format e ≡ true) es (edge ∷ []) all (All-cons (λ (e : Edge). holds_edge format e ≡ true) edge [] one (All-nil (λ (e : Edge). holds_edge format e ≡ true)))
-
-set_again : {X : Type 0} (xs : List X) (k : ℕ) (a b : X) → set (set xs k a) k b ≡ set xs k b
-set_again [] k a b = refl
-set_again (x ∷ xs) zero a b = refl
-set_again (x ∷ xs) (suc k) a b = ap (λ ys. x ∷ ys) (set_again xs k a b)
 
 -- The edge waits.
 pub edge_kept : {X : Type 0} (state : X → DiskState) (job : Job) (edges : List Edge) (edge : Edge) (buffers after : List (List Edge)) (placer : Placing) (index : List (List Place)) (graphs : List X)
@@ -78,7 +68,7 @@ edge_fills {X} state job edges edge buffers between after placer placer' index i
     let p = home_of job edge in
     let p_below : p < parts_of job = home_below job edge well below in
     let within : p < length buffers = omega (arith, p_below, making.holds.many) in
-    let now : after ≡ set buffers p no_edges = emptied ∙ ap (λ bs. set bs p no_edges) is ∙ set_again buffers p (waiting buffers p ++ edge ∷ []) no_edges in
+    let now : after ≡ set buffers p no_edges = emptied ∙ ap (λ bs. set bs p no_edges) is ∙ set-twice buffers p (waiting buffers p ++ edge ∷ []) no_edges in
     let fills = item_fills job.chunk (home_of job) (parts_of job) edges edge buffers after making.holds p_below full now in
     let waits : waiting between p ≡ waiting buffers p ++ edge ∷ [] = ap (λ bs. waiting bs p) is ∙ waiting_with buffers p edge within in
     let more : full_chunks job.chunk (home_of job) [] (edges ++ edge ∷ []) ≡ full_chunks job.chunk (home_of job) [] edges ++ chunk_with p (waiting between p) ∷ [] =

@@ -10,12 +10,13 @@ use Rattle.graph_model.specs.declared.job.Job.{Job}
 use Rattle.chunk_file.specs.declared.index.Place.{Place}
 use Rattle.ports.specs.Disk.{DiskState, IsDisk, InEveryImage}
 use Rattle.ports.specs.Stops.{LeavesByBeat}
+use Rattle.ports.specs.Devices.{Each, OneRose}
 use Rattle.store_model.specs.Heads.{IsShutGraph}
 use Rattle.store_model.specs.Slots.{IsBlank}
 use Rattle.store_model.specs.Kept.{own_of}
 use Rattle.storage_engine.specs.Making.{HasHead, IsFlushed, IsBlankDevice}
 use Rattle.storage_engine.specs.Preparing.{WhilePreparing, HasReadAll, IsMadeOf, IsMadeGraph, IsMadeValues, IsOfText, HasPrepareCause, Prepares}
-use Rattle.storage_engine.specs.Steps.{Anything, Step, Each, EachOne, OneRose, IsClosedFront, IsLater, Opens, Opened}
+use Rattle.storage_engine.specs.Steps.{Anything, Step, EachOne, IsClosedFront, IsLater, Opens, Opened}
 use Rattle.storage_engine.proofs.Keeping.{closed_shut, keeps_now, told_then}
 use Rattle.storage_engine.proofs.Every.{each_then, each_closed, one_rose_later}
 use Rattle.storage_engine.proofs.TwoBeats.{one_beat, two_beats, read_as_promised, places_as_promised, chunks_as_promised, made_device, graph_as_promised, values_first, values_second}

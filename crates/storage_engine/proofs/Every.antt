@@ -1,24 +1,14 @@
 -- Steps over several devices, one device after another.
-use Rattle.std.proofs.Common.{◌≡◌, ◌≢◌, ◌∙◌, ℕ, ◌+◌, ◌<◌, ◌≤◌, ◌==◌, Bool, true, false, List, length, get_or, set, refl, sym, subst, arith}
-use Rattle.std.proofs.lemmas.Bool.{eqb-true, eqb-false}
+use Rattle.std.proofs.Common.{◌≡◌, ◌∙◌, ℕ, ◌+◌, ◌<◌, ◌≤◌, List, length, get_or, set, refl, sym, subst, arith}
 use Rattle.std.proofs.lemmas.List.{get_or-set_same, get_or-set_other, get_or_default, length-set}
 use Rattle.ports.specs.Disk.{DiskState, IsDisk, InEveryImage}
 use Rattle.ports.specs.Faults.{Rose}
+use Rattle.ports.proofs.Faults.{count_rose_before, count_rose_after}
+use Rattle.ports.specs.Devices.{Each, OneRose}
 use Rattle.store_model.specs.Heads.{IsShutGraph}
-use Rattle.storage_engine.specs.Steps.{Anything, Step, Each, OneRose, IsClosedFront, Opens}
+use Rattle.graph_model.proofs.ListLemmas.{at_set}
+use Rattle.storage_engine.specs.Steps.{Anything, Step, IsClosedFront, Opens}
 use Rattle.storage_engine.proofs.Keeping.{step_same, step_then, step_anything, closed_step, opens_same}
-
--- an entry after a write: the new one, or the old one
-at_set_by : {X : Type 0} (P : ℕ → X → Type 0) (xs : List X) (e k : ℕ) (new d : X) → e < length xs → (k ≡ e → P e new) → (k ≢ e → P k (get_or xs k d)) → (same : Bool) → (k == e) ≡ same → P k (get_or (set xs e new) k d)
-at_set_by P xs e k new d within here other true is =
-    let same : k ≡ e = eqb-true k e is in
-    subst (λ j. P j (get_or (set xs e new) j d)) (sym same) (subst (P e) (sym (get_or-set_same xs e new d within)) (here same))
-at_set_by P xs e k new d within here other false is =
-    let apart : k ≢ e = eqb-false k e is in
-    subst (P k) (sym (get_or-set_other xs e k new d apart)) (other apart)
-
-pub at_set : {X : Type 0} (P : ℕ → X → Type 0) (xs : List X) (e k : ℕ) (new d : X) → e < length xs → (k ≡ e → P e new) → (k ≢ e → P k (get_or xs k d)) → P k (get_or (set xs e new) k d)
-at_set P xs e k new d within here other = at_set_by P xs e k new d within here other (k == e) refl
 
 -- no call
 pub each_same : {X : Type 0} (state : X → DiskState) (P : List ℕ → Type 0) (number : ℕ) (disks : List X) → ((x : X) → IsDisk (state x)) → Each state (Step P number) disks disks
@@ -43,13 +33,6 @@ each_then state P number olds mids news laws first next = record {
   each = λ e d within. step_then P number (state (get_or olds e d)) (state (get_or mids e d)) (state (get_or news e d)) (laws (get_or mids e d)) (first.each e d within) (next.each e d (omega (arith, within, first.many)));
 }
 
--- The cause of a fault.
-rose_before : (a b c : ℕ) → a ≤ b → Rose b c → Rose a c
-rose_before a b c earlier rose = omega arith
-
-rose_after : (a b c : ℕ) → Rose a b → b ≤ c → Rose a c
-rose_after a b c rose later = omega arith
-
 pub one_rose_here : {X : Type 0} (state : X → DiskState) (P : List ℕ → Type 0) (number : ℕ) (olds mids : List X) (e : ℕ) (mid new : X) → e < length mids → Each state (Step P number) olds mids
     → Rose (state (get_or mids e mid)).faults (state new).faults → OneRose state olds (set mids e new)
 one_rose_here {X} state P number olds mids e mid new within all rose = (
@@ -57,18 +40,18 @@ one_rose_here {X} state P number olds mids e mid new within all rose = (
   omega (arith, within, all.many),
   λ d.
       subst (λ x. Rose (state (get_or olds e d)).faults (state x).faults) (sym (get_or-set_same mids e new d within))
-      (rose_before _ (state (get_or mids e d)).faults _ (all.each e d (omega (arith, within, all.many))).faults
+      (count_rose_before _ (state (get_or mids e d)).faults _ (all.each e d (omega (arith, within, all.many))).faults
       (subst (λ x. Rose (state x).faults (state new).faults) (get_or_default mids e mid d within) rose)),
 )
 
 -- it rose in the second of two runs, or in the first
 pub one_rose_later : {X : Type 0} (state : X → DiskState) (P : List ℕ → Type 0) (number : ℕ) (olds mids news : List X) → Each state (Step P number) olds mids → OneRose state mids news → OneRose state olds news
 one_rose_later state P number olds mids news first rose =
-    (rose.0, omega (arith, rose.1, first.many), λ d. rose_before _ (state (get_or mids rose.0 d)).faults _ (first.each rose.0 d (omega (arith, rose.1, first.many))).faults (rose.2 d))
+    (rose.0, omega (arith, rose.1, first.many), λ d. count_rose_before _ (state (get_or mids rose.0 d)).faults _ (first.each rose.0 d (omega (arith, rose.1, first.many))).faults (rose.2 d))
 
 pub one_rose_earlier : {X : Type 0} (state : X → DiskState) (P : List ℕ → Type 0) (number : ℕ) (olds mids news : List X) → length mids ≡ length olds → OneRose state olds mids → Each state (Step P number) mids news → OneRose state olds news
 one_rose_earlier state P number olds mids news many rose next =
-    (rose.0, rose.1, λ d. rose_after _ (state (get_or mids rose.0 d)).faults _ (rose.2 d) (next.each rose.0 d (omega (arith, rose.1, many))).faults)
+    (rose.0, rose.1, λ d. count_rose_after _ (state (get_or mids rose.0 d)).faults _ (rose.2 d) (next.each rose.0 d (omega (arith, rose.1, many))).faults)
 
 -- The devices below a number have had their step, and the others no call.
 pub record DoneBelow {X : Type 0} (state : X → DiskState) (R : DiskState → DiskState → Type 0) (Q : ℕ → DiskState → DiskState → Type 0) (e : ℕ) (olds mids : List X) : Type 0 where

@@ -10,6 +10,7 @@ use Rattle.graph_model.specs.Jobs.{IsWellFormedJob, parts_of}
 use Rattle.ports.specs.Bytes.{Same}
 use Rattle.ports.specs.Disk.{DiskState, IsDisk}
 use Rattle.ports.specs.Told.{AsTold}
+use Rattle.ports.specs.Devices.{Each}
 use Rattle.chunk_model.specs.Chunks.{Chunk, chunk_of, full_chunks, left_over}
 use Rattle.chunk_model.specs.Layout.{holds_edge}
 use Rattle.chunk_model.proofs.Waiting.{flat_map-more, hold_none}
@@ -18,7 +19,7 @@ use Rattle.chunk_file.specs.Places.{no_places, places_of, total_of}
 use Rattle.seeded_place.specs.Placing.{Placing, HasPlaced, edge_stream}
 use Rattle.store_model.specs.Graphs.{home_of, edge_chunks, graph_with}
 use Rattle.storage_engine.specs.Making.{HasHead, HasChunks, HasPlaces, HasMade, HasMakeCause, IsMaking, IsFlushed, chunk_with}
-use Rattle.storage_engine.specs.Steps.{Step, Each, EachOne, Synced, IsClosedFront}
+use Rattle.storage_engine.specs.Steps.{Step, EachOne, Synced, IsClosedFront}
 use Rattle.storage_engine.specs.declared.fault.MakeFault.{MakeFault}
 use Rattle.storage_engine.specs.declared.fault.MakeFault.TheVariants.{DiskFault}
 use Rattle.storage_engine.proofs.Keeping.{keeps_now}

@@ -1,9 +1,10 @@
 -- One chunk more: what stands on the devices and in the index.
 use Rattle.std.proofs.Common.{◌≡◌, ◌≢◌, ◌∙◌, ◌⊎◌, ℕ, ◌+◌, ◌*◌, ◌<◌, ◌≤◌, ◌==◌, Bool, true, false, List, [], ◌∷◌, ◌++◌, length, map, get_or, set, Option, Some, None, IfSome, Result, inl, inr, refl, ap, sym, subst, arith}
 use Rattle.std.proofs.lemmas.List.{map-append, length-append, get_or-set_same, get_or-set_other, length-set}
-use Rattle.std.proofs.lemmas.List.Sums.{sum_by-set, get_or-le-sum_by}
+use Rattle.std.proofs.lemmas.List.Sums.{sum_by-set}
 use Rattle.graph_model.specs.declared.edge.Edge.{Edge}
 use Rattle.graph_model.specs.declared.job.Job.{Job}
+use Rattle.graph_model.proofs.ListLemmas.{at_set}
 use Rattle.ports.specs.Bytes.{Torn}
 use Rattle.ports.specs.Disk.{DiskState, IsDisk, Writes}
 use Rattle.ports.specs.Sink.{Appends}
@@ -23,15 +24,11 @@ use Rattle.store_model.proofs.Growing.{next_engine, graph-here, graph-other, gra
 use Rattle.storage_engine.specs.Steps.{Step, IsClosedFront}
 use Rattle.storage_engine.specs.Making.{MOST_BYTES, HasHead, HasChunks, HasPlaces, HasMade}
 use Rattle.storage_engine.proofs.Keeping.{keeps_now, step_call, torn_closed}
-use Rattle.storage_engine.proofs.Every.{at_set}
 
 -- The index.
 pub total-more : (index : List (List Place)) (k : ℕ) (place : Place) → k < length index → total_of (set index k (get_or index k no_places ++ place ∷ [])) ≡ total_of index + 1
 total-more index k place within =
     omega (arith, sum_by-set (λ (places : List Place). length places) index k (get_or index k no_places ++ place ∷ []) no_places within, length-append (get_or index k no_places) (place ∷ []))
-
-pub list_in_total : (index : List (List Place)) (k : ℕ) → k < length index → length (get_or index k no_places) ≤ total_of index
-list_in_total index k within = get_or-le-sum_by (λ (places : List Place). length places) index k no_places within
 
 with_here : (index : List (List Place)) (e p : ℕ) (place : Place) → 64 * e + p < length index → places_of (with_place index e p place) e p ≡ places_of index e p ++ place ∷ []
 with_here index e p place within = get_or-set_same index (64 * e + p) (places_of index e p ++ place ∷ []) no_places within

@@ -50,7 +50,7 @@ taken_none state job text reader buffers placer index graphs has_read making = r
   making = subst (λ es. IsMaking state job es buffers placer index graphs) (sym (edges_of_nothing job.vertices (takes_both_directions job.program))) making;
 }
 
-not_long : (bad : Option ℕ) (long : Bool) → refused_for bad long ≡ None → long ≡ false
+pub not_long : (bad : Option ℕ) (long : Bool) → refused_for bad long ≡ None → long ≡ false
 not_long (Some k) long e = cc
 not_long None true e = cc
 not_long None false e = refl

@@ -14,8 +14,9 @@ use Rattle.chunk_file.specs.declared.index.TheConstants.{MOST_PLACES}
 use Rattle.chunk_file.specs.Places.{total_of}
 use Rattle.ports.specs.Disk.{DiskState, InEveryImage}
 use Rattle.ports.specs.Stops.{LeavesByBeat}
+use Rattle.ports.specs.Devices.{OneRose}
 use Rattle.storage_engine.specs.Making.{HasPlaces}
-use Rattle.storage_engine.specs.Steps.{OneRose, HoldsExactly, IsLater}
+use Rattle.storage_engine.specs.Steps.{HoldsExactly, IsLater}
 use Rattle.store_model.specs.Heads.{IsShutGraph}
 use Rattle.store_model.specs.Slots.{device_size, IsBlank}
 use Rattle.store_model.specs.Graphs.{graph, edge_chunks}

@@ -2,7 +2,6 @@
 use Rattle.std.specs.Prelude.{◌≡◌, ◌≢◌, ◌⊎◌, ℕ, ◌+◌, ◌<◌, ◌≤◌, List, [], ◌∷◌, ◌++◌, length, slice_index, slice_index_or, Some, IfSome}
 use Rattle.ports.specs.Bytes.{after_write, Same}
 use Rattle.ports.specs.Disk.{DiskState, InEveryImage, IsSettled}
-use Rattle.ports.specs.Faults.{Rose}
 use Rattle.ports.specs.Stops.{Leaves}
 use Rattle.ports.specs.Told.{AsTold}
 use Rattle.store_model.specs.Gates.{OPEN}
@@ -27,16 +26,6 @@ pub record Step (P : List ℕ → Type 0) (number : ℕ) (old new : DiskState) :
   pub faults : old.faults ≤ new.faults
   pub told : AsTold Any old.bytes new.bytes
   pub beat : old.beat ≤ number → new.beat ≤ number
-
--- the same of each of several devices
-pub record Each {X : Type 0} (state : X → DiskState) (R : DiskState → DiskState → Type 0) (olds news : List X) : Type 0 where
-  pub many : length news ≡ length olds
-  pub each : (e : ℕ) (d : X) → e < length olds → R (state (slice_index_or olds e d)) (state (slice_index_or news e d))
-
--- the count of faults of one of them rose
-abbrev pub OneRose : {X : Type 0} → (X → DiskState) → (olds news : List X) → Type 0
-OneRose {X} state olds news =
-    (e : ℕ) × (e < length olds) × ((d : X) → Rose (state (slice_index_or olds e d)).faults (state (slice_index_or news e d)).faults)
 
 -- nothing is asked of the bytes
 abbrev pub Anything : List ℕ → Type 0

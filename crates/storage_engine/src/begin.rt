@@ -5,8 +5,9 @@ ghost use Rattle.std.specs.List.{All};
 ghost use Rattle.partitioner.specs.Splits.{IsSplitOf, IsSplit};
 ghost use Rattle.graph_model.specs.Jobs.{IsWellFormedJob};
 ghost use Rattle.store_model.specs.Heads.{IsShutGraph};
+ghost use Rattle.ports.specs.Devices.{Each, OneRose};
 ghost use Rattle.storage_engine.specs.Making.{HasHead, IsBlankDevice};
-ghost use Rattle.storage_engine.specs.Steps.{Anything, Step, Each, EachOne, OneRose};
+ghost use Rattle.storage_engine.specs.Steps.{Anything, Step, EachOne};
 
 use crate::each_device::{clear_all, write_all_zeros, write_fronts, write_marks};
 use graph_model::Job;

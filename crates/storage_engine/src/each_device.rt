@@ -2,13 +2,14 @@
 ghost use Rattle.std.specs.Prelude.{◌≡◌, ◌+◌, ◌*◌, ◌<◌, ◌≤◌, [], ◌∷◌, length, replicate, OnOk, OnErr};
 ghost use Rattle.std.specs.List.{All};
 ghost use Rattle.ports.specs.Disk.{InEveryImage, IsSettled};
+ghost use Rattle.ports.specs.Devices.{Each, OneRose};
 ghost use Rattle.graph_model.specs.Jobs.{IsWellFormedJob};
 ghost use Rattle.partitioner.specs.Splits.{IsSplit};
 ghost use Rattle.store_model.specs.Heads;
 ghost use Rattle.store_model.specs.Heads.{IsShutGraph, front};
 ghost use Rattle.store_model.specs.Slots;
 ghost use Rattle.store_reader.specs.Reading.{own_in};
-ghost use Rattle.storage_engine.specs.Steps.{Anything, Step, Each, EachOne, OneRose, IsClosedFront, HoldsExactly, Appended, Synced, Opens, Opened};
+ghost use Rattle.storage_engine.specs.Steps.{Anything, Step, EachOne, IsClosedFront, HoldsExactly, Appended, Synced, Opens, Opened};
 
 use crate::device_steps::{clear, open_gate, sync_closed, write_front, write_mark, write_zeros};
 use crate::head::front_of;

@@ -8,8 +8,9 @@ ghost use Rattle.chunk_model.specs.Layout.{holds_edge};
 ghost use Rattle.chunk_file.specs.declared.index.TheConstants.{MOST_PLACES};
 ghost use Rattle.chunk_file.specs.Places.{total_of};
 ghost use Rattle.store_model.specs.Graphs.{edge_chunks};
+ghost use Rattle.ports.specs.Devices.{Each, OneRose};
 ghost use Rattle.storage_engine.specs.Making.{HasHead, HasMade, HasMakeCause, IsFlushed, IsMaking, HasRoomFor, chunk_with};
-ghost use Rattle.storage_engine.specs.Steps.{Step, Each, OneRose, IsClosedFront};
+ghost use Rattle.storage_engine.specs.Steps.{Step, IsClosedFront};
 ghost use Rattle.storage_engine.specs.Waiting.{waiting, no_edges};
 
 use crate::each_device::sync_all;

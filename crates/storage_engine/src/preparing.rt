@@ -5,10 +5,11 @@ ghost use Rattle.graph_model.specs.declared.edge.Edge.{Edge};
 ghost use Rattle.graph_model.specs.Jobs.{IsWellFormedJob};
 ghost use Rattle.ports.specs.Disk.{InEveryImage};
 ghost use Rattle.ports.specs.Faults.{Rose};
+ghost use Rattle.ports.specs.Devices.{Each, OneRose};
 ghost use Rattle.store_model.specs.Heads.{IsShutGraph};
 ghost use Rattle.storage_engine.specs.Making.{IsFlushed, IsBlankDevice};
 ghost use Rattle.storage_engine.specs.Preparing.{HasReadAll, HasPrepareCause, IsOfText, Prepares};
-ghost use Rattle.storage_engine.specs.Steps.{Anything, Step, Each, EachOne, OneRose};
+ghost use Rattle.storage_engine.specs.Steps.{Anything, Step, EachOne};
 
 use crate::begin::begin_devices;
 use crate::each_device::open_all;

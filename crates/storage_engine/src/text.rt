@@ -6,10 +6,11 @@ ghost use Rattle.graph_model.specs.EdgeText;
 ghost use Rattle.graph_model.specs.Programs;
 ghost use Rattle.graph_model.specs.Jobs.{IsWellFormedJob};
 ghost use Rattle.ports.specs.Faults.{Rose};
+ghost use Rattle.ports.specs.Devices.{Each, OneRose};
 ghost use Rattle.storage_engine.specs.Making.{AreFew, IsMaking};
 ghost use Rattle.storage_engine.specs.Preparing;
 ghost use Rattle.storage_engine.specs.Preparing.{HasReadAll, HasPrepareCause};
-ghost use Rattle.storage_engine.specs.Steps.{Step, Each, OneRose, IsClosedFront};
+ghost use Rattle.storage_engine.specs.Steps.{Step, IsClosedFront};
 
 use crate::fault::{MakeFault, PrepareFault};
 use crate::maker::Maker;

@@ -8,8 +8,9 @@ ghost use Rattle.chunk_model.specs.Layout.{edge_width, holds_edge};
 ghost use Rattle.chunk_model.specs.ChunkBytes.{chunk_width};
 ghost use Rattle.chunk_file.specs.declared.index.TheConstants.{MOST_PLACES};
 ghost use Rattle.chunk_file.specs.Places.{total_of};
+ghost use Rattle.ports.specs.Devices.{Each, OneRose};
 ghost use Rattle.storage_engine.specs.Making.{HasMade, HasMakeCause, chunk_with};
-ghost use Rattle.storage_engine.specs.Steps.{Step, Each, OneRose, IsClosedFront};
+ghost use Rattle.storage_engine.specs.Steps.{Step, IsClosedFront};
 
 use crate::fault::MakeFault;
 use chunk_file::{Index, Place, append_chunk};

@@ -1,15 +1,17 @@
 -- What is known of a head whose fields are all well formed.
-use Rattle.std.proofs.Common.{◌≡◌, ◌∙◌, ℕ, zero, suc, ◌^◌, ◌<◌, ◌≤◌, ◌==◌, ◌&&◌, ◌||◌, nat_le, nat_lt, Bool, true, false, if◌then◌else◌, List, [], ◌∷◌, length, get_or, Option, Some, None, refl, sym, ap, arith, lit<}
+use Rattle.std.proofs.Common.{◌≡◌, ◌∙◌, ℕ, zero, suc, ◌^◌, ◌<◌, ◌≤◌, ◌==◌, ◌||◌, nat_le, nat_lt, Bool, true, false, if◌then◌else◌, List, [], ◌∷◌, length, get_or, Option, Some, None, refl, sym, ap, arith, lit<}
 use Rattle.std.proofs.lemmas.Bool.{leb-true, ltb-true, eqb-true}
 use Rattle.graph_model.specs.declared.job.Job.{Job}
 use Rattle.graph_model.specs.Jobs.{IsWellFormedJob, IsWellFormedProgram, most_vertices}
+use Rattle.graph_model.proofs.BoolLemmas.{both}
 use Rattle.store_model.specs.declared.field.Field.{Field}
 use Rattle.store_model.specs.declared.field.Field.TheVariants.{Format, Engines, Engine, Program, Argument, Vertices, Most, Chunk, Alpha, Limit}
 use Rattle.store_model.specs.declared.field.TheConstants.{FIELDS}
+use Rattle.partitioner.proofs.Made.{most_of_all}
 use Rattle.store_checks.specs.Jobs.{SaysJob}
 use Rattle.store_model.specs.Damage.{first_bad, is_good, is_argument, value_of, place_of, parts_in, within}
 
-some_none : (x : ℕ) → ◌≡◌ {A = Option ℕ} (Some x) None → ⊥
+pub some_none : (x : ℕ) → ◌≡◌ {A = Option ℕ} (Some x) None → ⊥
 some_none x same = cc
 
 -- if the first of some fields fails, so does one of them
@@ -21,11 +23,6 @@ good_at : (test : Field → Bool) (fields : List Field) → first_bad test field
 good_at test [] none i d less = absurd (omega arith)
 good_at test (field ∷ fields) none zero d less = (head_passes test field fields (test field) refl none).0
 good_at test (field ∷ fields) none (suc k) d less = good_at test fields (head_passes test field fields (test field) refl none).1 k d (omega arith)
-
-both : (a b : Bool) → (a && b) ≡ true → (a ≡ true) × (b ≡ true)
-both true true is = (refl, refl)
-both true false is = absurd (cc)
-both false b is = absurd (cc)
 
 within_is : (low high x : ℕ) → within low high x ≡ true → (low ≤ x) × (x ≤ high)
 within_is low high x is = let parts = both (nat_le low x) (nat_le x high) is in (leb-true low x parts.0, leb-true x high parts.1)
@@ -59,12 +56,8 @@ good_head e head none =
       limit = within_is 1 1000000 (value_of Limit head) (at 12 Format (lit< tt));
     }
 
-most_of : (format : Bool) → (if format then 4194304 else 67108864) ≤ 67108864
-most_of true = omega arith
-most_of false = omega arith
-
 pub few_vertices : (head : List ℕ) → GoodHead head → value_of Vertices head ≤ 67108864
-few_vertices head good = omega (arith, good.vertices, most_of (value_of Format head == 1))
+few_vertices head good = omega (arith, good.vertices, most_of_all (value_of Format head == 1))
 
 -- an argument is a small number
 argument_by : (program vertices x : ℕ) → vertices ≤ 67108864 → (root : Bool) → (program == 0 || program == 2) ≡ root → (rounds : Bool) → (program == 4) ≡ rounds → is_argument program vertices x ≡ true → x < 2 ^ 32

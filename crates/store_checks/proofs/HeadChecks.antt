@@ -3,12 +3,12 @@ use Rattle.std.proofs.lemmas.Bool.{eq-eqb, ne_eqb}
 use Rattle.std.proofs.Common.{◌≡◌, ◌≢◌, ◌∙◌, if◌then◌else◌, ℕ, suc, ◌+◌, ◌-◌, ◌<◌, Bool, List, [], ◌∷◌, ◌++◌, length, take, map, get_or, Option, Some, None, refl, sym, ap, subst, arith, zero-add}
 use Rattle.std.specs.List.{range_with_len}
 use Rattle.std.proofs.lemmas.List.{map-append}
-use Rattle.partitioner.proofs.Ranges.{range_with_len-append, range_with_len-more}
 use Rattle.store_model.specs.declared.field.Field.{Field}
 use Rattle.store_model.specs.declared.field.TheConstants.{FIELDS}
 use Rattle.store_model.specs.Damage.{Fault, first_of, first_over, first_bad, at_graph, engines_fault}
 use Rattle.store_model.specs.Damage as damage
 use Rattle.store_reader.specs.declared.store.Part.TheVariants.{Graph, Values, Lane}
+use Rattle.graph_model.proofs.ListLemmas.{range_with_len-more, range_with_len-append}
 use Rattle.store_checks.specs.declared.fault.RecoverFault.{RecoverFault}
 use Rattle.store_checks.specs.declared.fault.RecoverFault.TheVariants.{NotPrepared, EnginesDiffer, Damaged, DiskFault, Memory}
 use Rattle.ports.specs.Disk.{DiskState}

@@ -7,8 +7,8 @@ use Rattle.std.proofs.lemmas.List.Folds.{sum_by-replicate}
 use Rattle.std.proofs.lemmas.List.Sums.{sum_by_push}
 use Rattle.graph_model.specs.declared.edge.Edge.{Edge}
 use Rattle.graph_model.specs.declared.job.Job.{Job}
+use Rattle.graph_model.proofs.ListLemmas.{range_with_len-more}
 use Rattle.partitioner.specs.declared.split.Split.{Split}
-use Rattle.partitioner.proofs.Ranges.{range_with_len-more}
 use Rattle.chunk_model.specs.Chunks.{Chunk}
 use Rattle.chunk_model.specs.Layout.{edge_layout}
 use Rattle.chunk_model.specs.ChunkBytes.{starts_of}

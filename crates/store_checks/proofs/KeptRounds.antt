@@ -6,10 +6,10 @@ use Rattle.std.proofs.lemmas.List.Sums.{sum_by_push}
 use Rattle.partitioner.specs.declared.split.Split.{Split}
 use Rattle.partitioner.specs.Splits.{IsSplit}
 use Rattle.partitioner.proofs.Owned.{own_count-le}
-use Rattle.partitioner.proofs.Ranges.{range_with_len-more}
 use Rattle.store_model.specs.Slots.{slot_of, device_size}
 use Rattle.store_model.specs.Kept.{device}
 use Rattle.store_model.specs.Damage.{Fault, first_of, first_over, is_open_slot, round_in, changed_of, slot_fault, device_fault, ValuesDamaged}
+use Rattle.graph_model.proofs.ListLemmas.{range_with_len-more}
 use Rattle.store_checks.specs.declared.kept.Standing.{Standing}
 use Rattle.store_checks.specs.Rounds.{TellsSlot, StandsIn, changed_over, FindsRound, IsWithin, IsKept, NoneKept}
 use Rattle.store_reader.specs.Reading.{own_in}

@@ -56,14 +56,6 @@ closed_slot_test own slot head told tells closed =
 pub bad_slot : (own e slot : ℕ) (told : List ℕ) → is_good_slot own slot told ≡ false → slot_fault own e slot told ≡ Some (ValuesDamaged e (slot_start own slot))
 bad_slot own e slot told bad = ap (λ b. if b then None else Some (ValuesDamaged e (slot_start own slot))) bad
 
-pub is_open_then : (b : Bool) → not b ≡ false → b ≡ true
-is_open_then true is = refl
-is_open_then false is = absurd (cc)
-
-pub is_closed_then : (b : Bool) → not b ≡ true → b ≡ false
-is_closed_then false is = refl
-is_closed_then true is = absurd (cc)
-
 -- The checks of one values device.
 pub wrong_size : (own e : ℕ) (told : List ℕ) → (length told ≡ device_size own → ⊥) → device_fault own e told ≡ Some (ValuesDamaged e 0)
 wrong_size own e told other =

@@ -6,11 +6,12 @@ use Rattle.std.specs.List.{All}
 use Rattle.std.proofs.lemmas.List.Elements.{All-nil, All-from_get_or}
 use Rattle.ports.specs.Disk.{DiskState}
 use Rattle.ports.specs.Stops.{IsStop, AreImages}
+use Rattle.ports.specs.Devices.{Each, OneRose, MetersGoOn}
 use Rattle.store_model.specs.Kept.{IsUnprepared}
 use Rattle.epoch_seats.specs.Between.{IsBetweenEpochs}
-use Rattle.restart.specs.Devices.{Each, OneRose, EachRow, OneRowRose}
+use Rattle.restart.specs.Devices.{EachRow, OneRowRose}
 use Rattle.restart.specs.Dropping.{HandsBack}
-use Rattle.round_steps.specs.Going.{AreDevices, AreRows, MetersGoOn, MeterRose}
+use Rattle.round_steps.specs.Going.{AreDevices, AreRows, MeterRose}
 use Rattle.endings.specs.declared.ending.Ending.{Ending}
 use Rattle.endings.specs.declared.ending.Ending.TheVariants.{Dropped, DiskFault}
 use Rattle.run_model.specs.Calls.{Call, IsReady, AnyRose}

@@ -3,11 +3,11 @@ use Rattle.std.specs.Prelude.{◌≡◌, ◌⊎◌, ℕ, ◌+◌, ◌≤◌, [],
 use Rattle.std.specs.List.{All}
 use Rattle.ports.specs.Disk.{DiskState}
 use Rattle.ports.specs.Stops.{AreImages}
+use Rattle.ports.specs.Devices.{MetersGoOn}
 use Rattle.restart.specs.Dropping.{IsEmpty}
 use Rattle.store_model.specs.Kept.{IsUnprepared}
 use Rattle.endings.specs.declared.ending.Ending.{Ending}
 use Rattle.endings.specs.declared.ending.Ending.TheVariants.{Dropped, DiskFault, Memory}
-use Rattle.round_steps.specs.Going.{MetersGoOn}
 use Rattle.run_model.specs.Calls.{Call, IsReady, AnyRose}
 use Rattle.run_model.specs.Printing.{Prints}
 use Rattle.run_model.specs.Stops.{AtEachStop}

@@ -1,5 +1,5 @@
 -- The edges of a text that a job accepts: they are within the graph, and few.
-use Rattle.std.proofs.Common.{◌≡◌, refl, ℕ, ◌*◌, ◌^◌, ◌<◌, ◌≤◌, List, [], length, Bool, true, false, nat_lt, Option, Some, None, arith}
+use Rattle.std.proofs.Common.{◌≡◌, ℕ, ◌*◌, ◌^◌, ◌<◌, ◌≤◌, List, [], length, false, nat_lt, arith}
 use Rattle.std.proofs.Math.Nat.{min-le_right}
 use Rattle.std.proofs.lemmas.Bool.Decides.{nat_tests}
 use Rattle.std.proofs.lemmas.List.Elements.{All-weaker}
@@ -7,7 +7,7 @@ use Rattle.graph_model.specs.declared.edge.Edge.{Edge}
 use Rattle.graph_model.specs.declared.edge.TheConstants.{MAX_WEIGHT}
 use Rattle.graph_model.specs.declared.job.Job.{Job}
 use Rattle.graph_model.specs.Programs.{takes_both_directions}
-use Rattle.graph_model.specs.EdgeText.{first_malformed, lines, lines_within, refused_for, text_limit}
+use Rattle.graph_model.specs.EdgeText.{first_malformed, lines, lines_within, text_limit}
 use Rattle.graph_model.specs.Jobs.{IsWellFormedJob, parts_of}
 use Rattle.graph_model.specs.Answer.{edges, IsAccepted}
 use Rattle.graph_model.specs.Rounds.{IsWithinGraph}
@@ -17,15 +17,11 @@ use Rattle.chunk_model.proofs.Counted.{chunks_few}
 use Rattle.store_model.specs.Graphs.{home_of, edge_chunks}
 use Rattle.store_model.specs.Damage.{MOST_CHUNKS}
 use Rattle.storage_engine.proofs.Few.{text_few, full_few}
+use Rattle.storage_engine.proofs.Texts.{not_long}
 use Rattle.restart.specs.Storable.{IsEdgeOf, IsStorable}
 
 pub edges_within : (job : Job) (text : List ℕ) → IsWithinGraph job.vertices (edges job text)
 edges_within job text = edges_of_lines-within job.vertices (takes_both_directions job.program) (lines text)
-
-not_long : (bad : Option ℕ) (long : Bool) → refused_for bad long ≡ None → long ≡ false
-not_long (Some k) long none = cc
-not_long None true none = cc
-not_long None false none = refl
 
 no_longer : (job : Job) (text : List ℕ) → IsAccepted job text → length text ≤ text_limit job.chunk
 no_longer job text accepted =

@@ -9,6 +9,7 @@ use Rattle.ports.specs.Disk.{DiskState}
 use Rattle.partitioner.specs.declared.split.Split.{Split}
 use Rattle.partitioner.specs.Splits.{IsSplitOf}
 use Rattle.chunk_object.specs.Epochs.{cursor_of}
+use Rattle.chunk_object.proofs.Dutiful.{cursor_parts}
 use Rattle.chunk_model.specs.Chunks.{chunks_of_partition}
 use Rattle.chunk_model.specs.Layout.{edge_layout}
 use Rattle.chunk_model.specs.ChunkBytes.{bytes_of_chunks}
@@ -17,7 +18,6 @@ use Rattle.chunk_file.specs.Places.{places_of}
 use Rattle.chunk_file.specs.Chunks.{IsChunkIn}
 use Rattle.chunk_file.specs.Scans.{IsEdgeChunk}
 use Rattle.phase_model.specs.Shelves.{no_chunk}
-use Rattle.phase_core.proofs.Drained.{cursor_parts}
 use Rattle.store_model.specs.declared.field.Field.TheVariants.{Engines}
 use Rattle.store_model.specs.Heads.{HEAD_SIZE}
 use Rattle.store_model.specs.Kept.{device}

@@ -1,5 +1,5 @@
 -- The edges of a store, for the rounds.
-use Rattle.std.proofs.Common.{◌≡◌, ◌∙◌, ℕ, ◌/◌, ◌%◌, ◌<◌, ◌≤◌, ◌&&◌, nat_lt, Bool, true, false, List, [], ◌∷◌, length, Some, get_or, refl, sym, ap, subst, arith, append-nil}
+use Rattle.std.proofs.Common.{◌≡◌, ◌∙◌, ℕ, ◌/◌, ◌%◌, ◌<◌, ◌≤◌, ◌&&◌, nat_lt, Bool, true, false, List, [], length, Some, get_or, refl, sym, ap, subst, arith, append-nil}
 use Rattle.std.specs.Prelude.{slice_get, option_and_then}
 use Rattle.std.specs.List.{All}
 use Rattle.std.proofs.lemmas.Bool.{ltb-true, ltb-false, le-ltb}
@@ -39,14 +39,10 @@ use Rattle.restart.specs.Storable.{IsEdgeOf, IsStorable}
 use Rattle.restart.proofs.ChunksOfJobs.{on_engine_are, says_own}
 use Rattle.restart.proofs.SplitOfHead.{says_split, from_head}
 use Rattle.round_steps.specs.Standing.{HasEdges}
+use Rattle.list_moves.proofs.Desks.{some_of}
 use Rattle.store_edges.proofs.Cursors.{IsNarrow, cursor_chunks}
 use Rattle.store_edges.proofs.Begun.{chunk_there}
 use Rattle.store_edges.proofs.Stands.{as_many}
-
--- one of some
-some_of : {D : Type 0} (ds : List D) (e : ℕ) → e < length ds → D
-some_of [] e below = absurd (omega arith)
-some_of (d ∷ ds) e below = d
 
 -- what a device among some tells
 pub told_at : {D : Type 0} (state : D → DiskState) (ds : List D) (e : ℕ) (bytes : List ℕ) → e < length ds → ((d : D) → (state (get_or ds e d)).bytes ≡ Some bytes) →

@@ -1,11 +1,12 @@
 -- One chunk more: it goes to the end of the device of its engine, and the others stay.
-use Rattle.std.proofs.Common.{◌≡◌, ◌≢◌, ◌∙◌, ℕ, ◌+◌, ◌==◌, Bool, true, false, cond, suc, List, [], ◌∷◌, ◌++◌, length, map, filter, refl, ap, sym, arith, append-nil, append_assoc, length-append, eq-eqb}
+use Rattle.std.proofs.Common.{◌≡◌, ◌≢◌, ◌∙◌, ℕ, ◌+◌, ◌==◌, Bool, true, false, cond, List, [], ◌∷◌, ◌++◌, length, map, filter, refl, ap, sym, arith, append-nil, append_assoc, length-append, eq-eqb}
 use Rattle.std.proofs.lemmas.Bool.{ne_eqb}
 use Rattle.std.proofs.lemmas.List.{map-append}
 use Rattle.std.proofs.lemmas.List.Elements.{filter-append}
 use Rattle.std.specs.List.{enumerate_from}
 use Rattle.graph_model.specs.declared.edge.Edge.{Edge}
 use Rattle.graph_model.specs.declared.job.Job.{Job}
+use Rattle.graph_model.proofs.ListLemmas.{enumerate-more}
 use Rattle.chunk_model.specs.Chunks.{Chunk}
 use Rattle.chunk_model.specs.ChunkBytes.{chunk_bytes, bytes_of_chunks, starts_of}
 use Rattle.chunk_model.specs.Layout.{edge_layout}
@@ -17,12 +18,6 @@ use Rattle.store_model.specs.Graphs.{chunks_on, graph_with, places_on}
 -- the engine of the next chunk, where these were made before
 abbrev pub next_engine : Job → List (Chunk Edge) → ℕ
 next_engine job made = engine_of job.seed edge_stream job.engines (length made)
-
-enumerate-more : {X : Type 0} (n : ℕ) (xs : List X) (x : X) → enumerate_from n (xs ++ x ∷ []) ≡ enumerate_from n xs ++ (n + length xs, x) ∷ []
-enumerate-more {X} n [] x = ap (λ (k : ℕ). (k, x) ∷ []) (omega arith)
-enumerate-more {X} n (y ∷ xs) x =
-    let next : n + 1 + length xs ≡ n + (suc (length xs)) = omega arith in
-    ap (λ (rest : List (ℕ × X)). (n, y) ∷ rest) (enumerate-more (n + 1) xs x ∙ ap (λ (k : ℕ). enumerate_from (n + 1) xs ++ (k, x) ∷ []) next)
 
 on_engine-append : {X : Type 0} (e : ℕ) (xs ys : List (ℕ × X)) → on_engine e (xs ++ ys) ≡ on_engine e xs ++ on_engine e ys
 on_engine-append {X} e xs ys =

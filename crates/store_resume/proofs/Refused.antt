@@ -2,6 +2,7 @@
 use Rattle.std.proofs.Common.{◌≡◌, ◌∙◌, inl, inr, ℕ, List, [], map, true, refl, sym, ap, subst, arith}
 use Rattle.ports.specs.Disk.{DiskState, IsDisk}
 use Rattle.ports.specs.Stops.{IsStop, AreImages}
+use Rattle.ports.specs.Devices.{MetersGoOn}
 use Rattle.graph_model.specs.declared.edge.Edge.{Edge}
 use Rattle.graph_model.specs.declared.job.Job.{Job}
 use Rattle.graph_model.specs.declared.job.Program.TheVariants.{Labels}
@@ -17,7 +18,7 @@ use Rattle.restart.specs.Resuming as restart
 use Rattle.restart.specs.Storable.{IsStorable}
 use Rattle.restart.proofs.OneFault.{one_fault}
 use Rattle.epoch_seats.specs.Between.{IsBetweenEpochs}
-use Rattle.round_steps.specs.Going.{AreDevices, AreRows, MetersGoOn, MeterRose}
+use Rattle.round_steps.specs.Going.{AreDevices, AreRows, MeterRose}
 use Rattle.store_rounds.proofs.Places.{idle_stop}
 use Rattle.store_rounds.proofs.Stores.{whole_open}
 use Rattle.endings.specs.declared.ending.Ending.{Ending}

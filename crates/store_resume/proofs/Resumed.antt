@@ -4,6 +4,7 @@ use Rattle.std.specs.Prelude.{Vec}
 use Rattle.std.specs.Global.{Global}
 use Rattle.ports.specs.Disk.{DiskState, IsDisk, InEveryImage}
 use Rattle.ports.specs.Stops.{IsStop, AreImages}
+use Rattle.ports.specs.Devices.{MetersGoOn}
 use Rattle.graph_model.specs.declared.edge.Edge.{Edge}
 use Rattle.graph_model.specs.declared.job.Job.{Job}
 use Rattle.graph_model.specs.Jobs.{IsWellFormedJob}
@@ -11,7 +12,8 @@ use Rattle.graph_model.specs.Programs.{rules_of, shows_side}
 use Rattle.graph_model.specs.Rounds.{IsLastRound}
 use Rattle.graph_model.specs.Answer.{NeverSettles}
 use Rattle.graph_model.proofs.RoundLemmas.{last_is_one}
-use Rattle.partitioner.specs.Splits.{IsSplitOf, split_for}
+use Rattle.partitioner.specs.Splits.{split_for}
+use Rattle.partitioner.proofs.Made.{is_split_for}
 use Rattle.answer_lines.specs.Printing.{PrintsAll, PrintsFront}
 use Rattle.store_model.specs.Damage as damage
 use Rattle.store_model.specs.Graphs.{graph}
@@ -25,7 +27,7 @@ use Rattle.restart.specs.Recovering.{job_in, index_in, IsRecovered}
 use Rattle.restart.specs.Resuming.{Resumes}
 use Rattle.restart.specs.Storable.{IsStorable}
 use Rattle.restart.proofs.OneFault.{recovered_has_none}
-use Rattle.round_steps.specs.Going.{AreDevices, AreRows, MetersGoOn}
+use Rattle.round_steps.specs.Going.{AreDevices, AreRows}
 use Rattle.round_steps.specs.Standing.{HasEdges}
 use Rattle.round_steps.proofs.Kept.{meters_then, meter_rose_later}
 use Rattle.round_loop.specs.declared.run.Start.{Start}
@@ -70,9 +72,6 @@ use Rattle.store_resume.proofs.Starts.{opened_found, job_found, places_found, st
 
 same_limit : (a b : ℕ) → RoundLimit a ≡ RoundLimit b → a ≡ b
 same_limit a b same = cc
-
-split_is : (job : Job) → IsSplitOf job (split_for job)
-split_is job = record { vertices = refl; engines = refl; parts = refl; span = refl }
 
 module _ {D M : Type 0} (state : D → DiskState) (lawful : (d : D) → IsDisk (state d)) (faults : M → ℕ) (call : Call D M) (meters : List M) (engines : ℕ) (found : Recovered) (formed : IsWellFormedJob (job_in found)) (as_many : (job_in found).engines ≡ engines)
     (ready : IsReady state engines call.before) (on : MetersGoOn faults call.before.meters meters)
@@ -119,7 +118,7 @@ module _ {D M : Type 0} (state : D → DiskState) (lawful : (d : D) → IsDisk (
   not_damaged : (result : Result Done RoundFault) (runs : RunsTo result) (part : Part) (engine place : ℕ) → result ≡ Err (fault.Damaged part engine place) → OfBytes state faults call (λ graphs values. ⊥)
   not_damaged result runs part engine place is graphs values tell_graphs tell_values others =
       let opened = opened_found graphs values found (recovered graphs values tell_graphs tell_values) in
-      let chunks = found_stand job formed (split_for job) (split_is job) graphs values (index_in found) opened state call.before.store.graphs.items tell_graphs in
+      let chunks = found_stand job formed (split_for job) (is_split_for job) graphs values (index_in found) opened state call.before.store.graphs.items tell_graphs in
       runs.sound chunks.0 chunks.1 others part engine place is
 
   -- **Of the store of a job**
@@ -129,7 +128,7 @@ module _ {D M : Type 0} (state : D → DiskState) (lawful : (d : D) → IsDisk (
     graph_told e d below = tell_graphs.told e d (omega (arith, below, many_graphs)) ∙ ap Some (whole.graphs_are e below)
 
     has_edges : HasEdges state job (split_for job) (index_in found) call.before.store.graphs.items edges
-    has_edges = edges_there state job edges call.before.store.graphs.items many_graphs graph_told storable (split_for job) (split_is job) (index_in found) (places_found job edges values found resumes)
+    has_edges = edges_there state job edges call.before.store.graphs.items many_graphs graph_told storable (split_for job) (is_split_for job) (index_in found) (places_found job edges values found resumes)
 
     runs_well : (result : Result Done RoundFault) (runs : RunsTo result) → RunsWell state (rules_of job.program) job start edges (moment call.before.store meters call.before.seat call.before.beat) call.after runs.epochs result
     runs_well result runs = runs.well edges has_edges others (good_start state job edges call.before.store.values.items values found formed many_values tell_values resumes)

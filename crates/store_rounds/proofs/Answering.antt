@@ -19,13 +19,13 @@ use Rattle.ports.specs.Disk.{DiskState}
 use Rattle.ports.specs.Sink.{Appends, AppendsFront}
 use Rattle.ports.specs.Told.{AsTold}
 use Rattle.store_model.specs.Slots.{slot_of}
-use Rattle.apply_round.proofs.Desks.{any_of}
 use Rattle.restart.proofs.HeadsOfJobs.{few_vertices}
 use Rattle.partitioner.specs.Splits.{split_for}
 use Rattle.round_loop.specs.Kept.{IsRead}
 use Rattle.answer_lines.specs.Values.{HoldValues}
 use Rattle.answer_lines.specs.Printing.{PrintsAll, PrintsFront}
 use Rattle.answer_lines.proofs.Answered.{prints_these, prints_front_of_these}
+use Rattle.list_moves.proofs.Desks.{some_of}
 use Rattle.store_rounds.specs.Printed.{AnswerPrinted, FrontPrinted}
 
 -- Both numbers of each value of a round have room in 64 bits.
@@ -58,7 +58,7 @@ module _ {D : Type 0} (state : D → DiskState) (job : Job) (edges : List Edge) 
     fit = rooms job.program job.vertices edges round (omega (arith, few_vertices job well)) graph;
     stand = λ e below.
         let within : e < length devices = omega (arith, many, below) in
-        let d : D = any_of devices e within in
+        let d : D = some_of devices e within in
         let gives = read e d below in
         (gives.0, ap (option_and_then (λ disk. (state disk).bytes)) (got devices e d within) ∙ gives.1, gives.2.values_are);
   }

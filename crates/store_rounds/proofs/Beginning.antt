@@ -9,7 +9,7 @@ use Rattle.store_model.specs.Heads.{IsShutGraph}
 use Rattle.store_model.specs.Graphs.{graph}
 use Rattle.store_model.specs.Slots.{IsBlank}
 use Rattle.store_model.specs.Kept.{own_of, device, IsValuesOf, IsUnprepared, IsWholeStore}
-use Rattle.apply_round.proofs.Desks.{any_of}
+use Rattle.list_moves.proofs.Desks.{some_of}
 use Rattle.store_rounds.specs.Images.{IsStopOfEach}
 use Rattle.store_rounds.specs.Going.{LeaveRounds}
 use Rattle.store_rounds.specs.Making.{LeaveMade, IsShutSomewhere, IsMadeStore}
@@ -35,7 +35,7 @@ module _ {D : Type 0} (state : D → DiskState) (job : Job) (text : List ℕ) (n
   graphs_stopped e below = omega (arith, below, many_graphs, stop_graphs.many)
 
   some_graph : (e : ℕ) → e < job.engines → D
-  some_graph e below = any_of graphs e (omega (arith, below, many_graphs))
+  some_graph e below = some_of graphs e (omega (arith, below, many_graphs))
 
   -- in one of the two beats of making, the graph devices
   graphs_at_stop : IsShutSomewhere state job graphs → b ≤ now → IsUnprepared stopped_graphs ⊎ ((number + 1 ≤ b) × ((e : ℕ) → e < job.engines → device stopped_graphs e ≡ graph job (edges job text) e))
@@ -69,7 +69,7 @@ module _ {D : Type 0} (state : D → DiskState) (job : Job) (text : List ℕ) (n
       whole.0,
       whole_store (stop.many ∙ many_values) whole.1 (λ e below.
           let here : e < length values = omega (arith, below, many_values) in
-          let d : D = any_of values e here in
+          let d : D = some_of values e here in
           blank_is job (edges job text) e (device stopped e) ((leave.of_values e d below).each b (device stopped e) (stop.each e d here) within whole.0)),
     )
   ]
@@ -91,7 +91,7 @@ module _ {D : Type 0} (state : D → DiskState) (job : Job) (text : List ℕ) (n
       | inr whole ↦ inr (
         whole.0,
         whole_store (stop.many ∙ many_values) whole.1 (λ e below.
-            let d : D = any_of values e (omega (arith, below, many_values)) in
+            let d : D = some_of values e (omega (arith, below, many_values)) in
             values_at_stop e d below (leave.of_values e d below).later (λ earlier. (leave.of_values e d below).each b (device stopped e) earlier within whole.0)),
       )
     ]
@@ -104,6 +104,6 @@ module _ {D : Type 0} (state : D → DiskState) (job : Job) (text : List ℕ) (n
         is.whole e d below (device stopped_graphs e)
         ((lawful (get_or graphs_made e d)).later_beats b (state (get_or graphs e d)).moment (device stopped_graphs e) (omega (arith, after, is.graph_beats e d below)) (stop_graphs.each e d (omega (arith, below, many_graphs)))))
         (λ e below.
-        let d : D = any_of values e (omega (arith, below, many_values)) in
+        let d : D = some_of values e (omega (arith, below, many_values)) in
         values_at_stop e d below (leave.of_values e d below).later
         (λ earlier. is.blank e d below (device stopped e) ((lawful (get_or made e d)).later_beats b (state (get_or values e d)).moment (device stopped e) (omega (arith, after, is.value_beats e d below)) earlier)))

@@ -7,8 +7,8 @@ use Rattle.graph_model.specs.Programs.{rules_of}
 use Rattle.ports.specs.Disk.{DiskState, InEveryImage}
 use Rattle.store_model.specs.Slots.{slot_of, slot_bytes, IsClosed, IsBlank}
 use Rattle.store_model.specs.Kept.{own_of, own_vertices, changed_in, values_of, round_values, device, HasRound, IsValuesOf, IsEverywhere}
-use Rattle.apply_round.proofs.Desks.{any_of}
 use Rattle.round_loop.specs.Kept.{HasStood, Left, SlotLeft}
+use Rattle.list_moves.proofs.Desks.{some_of}
 use Rattle.store_rounds.specs.Images.{IsStopOfEach}
 use Rattle.store_rounds.specs.Going.{LeaveRounds, LeaveRoundsSince}
 use Rattle.store_rounds.proofs.SameRounds.{reached_in_store, held_in_store, known_round}
@@ -68,7 +68,7 @@ pub all_left : {D : Type 0} (state : D → DiskState) (job : Job) (edges : List 
     → ((e : ℕ) (d : D) → e < job.engines → InEveryImage (state (get_or old e d)) (IsValuesOf job edges e)) → LeaveRounds state job edges number first last old new
     → b ≤ last → IsStopOfEach state b old new stopped → (e : ℕ) → e < job.engines → IsValuesOf job edges e (device stopped e)
 all_left state job edges number first last b old new stopped many at_start leave within stop e below =
-    let d = any_of old e (omega (arith, below, many)) in
+    let d = some_of old e (omega (arith, below, many)) in
     left_is job edges e number first b (state (get_or old e d)) (device stopped e) (at_start e d below) (left_at state job edges number first last b old new stopped many leave within stop e d below)
 
 -- **And the round before the one that is made, on all of them.**
@@ -78,7 +78,7 @@ pub all_before : {D : Type 0} (state : D → DiskState) (job : Job) (edges : Lis
     → first ≤ round → 1 ≤ round → round ≤ 2 ^ 64 → b ≡ number + 1 + (round - first) → b ≤ last → IsStopOfEach state b early new stopped → IsEverywhere job edges stopped (round - 1)
 all_before state job edges number first last b round early old new stopped well many at_start later stood leave from some few beat within stop e below =
     let here : e < length early = omega (arith, below, many) in
-    let d = any_of early e here in
+    let d = some_of early e here in
     before_is job edges e number first b (state (get_or old e d)) (device stopped e) (at_start e d below)
     (leave e d below b (state (get_or early e d)).moment (device stopped e) (omega (arith, beat)) within (later e d below) (stop.each e d here))
     round well from some few beat (stood e d below)

@@ -11,7 +11,6 @@ use Rattle.partitioner.specs.Splits.{IsSplit, split_for}
 use Rattle.partitioner.proofs.Made.{some_part, job-is_split}
 use Rattle.store_model.specs.Kept.{own_vertices, device, IsReached, HasRound, IsEverywhere}
 use Rattle.store_checks.specs.Causes.{Tell}
-use Rattle.apply_round.proofs.Desks.{any_of}
 use Rattle.apply_round.proofs.Shares as shares
 use Rattle.restart.specs.declared.recovering.Recovered.{Recovered}
 use Rattle.restart.specs.declared.recovering.Recovered.TheVariants as recovered
@@ -23,6 +22,7 @@ use Rattle.round_loop.specs.Starts as run
 use Rattle.round_loop.specs.Starts.{first_made}
 use Rattle.round_loop.specs.Kept as rounds
 use Rattle.round_loop.specs.Kept.{Holds, HasStood, IsKept, IsRead, IsGoodStart, StandsAfter}
+use Rattle.list_moves.proofs.Desks.{some_of}
 use Rattle.store_rounds.specs.Images.{HaveImages, AreSettledAs}
 use Rattle.store_rounds.specs.Going.{start_of}
 use Rattle.store_rounds.proofs.SameRounds.{changed_same, reached_by_run, held_by_run, held_in_store}
@@ -43,7 +43,7 @@ module _ {D : Type 0} (state : D → DiskState) (job : Job) (edges : List Edge) 
       → HaveImages state devices values → IsEverywhere job edges values round
   kept_everywhere round devices values many reached kept images e below =
       let within : e < length devices = omega (arith, many, below) in
-      let d : D = any_of devices e within in
+      let d : D = some_of devices e within in
       held_in_store job edges e round (device values e) reached (kept e d below (device values e) (images.each e d within))
 
   -- **And so does one that is read.**
@@ -51,7 +51,7 @@ module _ {D : Type 0} (state : D → DiskState) (job : Job) (edges : List Edge) 
       → Tell state devices values → IsEverywhere job edges values round
   read_everywhere round devices values many reached read tell e below =
       let within : e < length devices = omega (arith, many, below) in
-      let d : D = any_of devices e within in
+      let d : D = some_of devices e within in
       let gives = read e d below in
       let same : Some gives.0 ≡ Some (device values e) = sym gives.1 ∙ tell.told e d within in
       let same_bytes : gives.0 ≡ device values e = cc in

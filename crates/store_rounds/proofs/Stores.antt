@@ -12,9 +12,9 @@ use Rattle.store_model.specs.Graphs.{edge_chunks, graph, graph_with}
 use Rattle.store_model.specs.Kept.{device, HasRound, IsValuesOf, IsPrepared, IsWholeStore, StoreOf, IsEverywhere}
 use Rattle.store_model.proofs.Growing.{length-graph}
 use Rattle.store_checks.specs.Causes.{Tell}
-use Rattle.apply_round.proofs.Desks.{any_of}
 use Rattle.restart.proofs.RoundsOfJobs.{reached_few}
 use Rattle.round_loop.specs.Kept.{Holds, HasStood}
+use Rattle.list_moves.proofs.Desks.{some_of}
 use Rattle.store_rounds.specs.Images.{AreSettledAs, IsStopOfEach}
 use Rattle.store_rounds.specs.Going.{LeaveRounds}
 use Rattle.store_rounds.proofs.Places.{tuple_with, told_images, are_images}
@@ -69,7 +69,7 @@ module _ {D : Type 0} (state : D → DiskState) (job : Job) (edges : List Edge) 
   at_start P e d below p c image = subst P (sym (settled.each e d (omega (arith, below, many)) c image)) p
 
   some_device : (e : ℕ) → e < job.engines → D
-  some_device e below = any_of old e (omega (arith, below, many))
+  some_device e below = some_of old e (omega (arith, below, many))
 
   few : round ≤ 1000000
   few = reached_few job edges round well (found 0 (omega (arith, well.engines.0))).reached

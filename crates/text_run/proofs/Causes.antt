@@ -10,11 +10,11 @@ use Rattle.graph_model.specs.Answer.{edges, refusal_of, IsAccepted, NeverSettles
 use Rattle.store_model.specs.Heads.{IsOpenGraph, IsShutGraph}
 use Rattle.store_model.specs.Kept.{IsPrepared, IsUnprepared}
 use Rattle.store_reader.specs.Devices.{IsOpenDevice, SomeShut}
-use Rattle.apply_round.proofs.Desks.{any_of}
 use Rattle.endings.specs.declared.ending.Ending.{Ending}
 use Rattle.endings.specs.declared.ending.Ending.TheVariants.{Answered, Dropped, Usage, BadLine, DiskFault, RoundLimit, Memory, ReadFault, WriteFault, NotPrepared, EnginesDiffer, Damaged, TooLong, StoreHolds}
 use Rattle.run_model.specs.Calls.{Call, OfText, OfTold}
 use Rattle.run_model.specs.Causes.{is_interrupted, IsAnswered, HasCause, IsExact}
+use Rattle.list_moves.proofs.Desks.{some_of}
 
 -- what holds of a text that is told
 pub of_some : (told : Option (List ℕ)) (P : List ℕ → Type 0) → IfSome told P → OfText told P
@@ -41,7 +41,7 @@ module _ {D M : Type 0} (state : D → DiskState) (faults : M → ℕ) (job : Jo
   -- some graph device that is not open is one, where the devices tell
   pub unprepared : SomeShut state call.before.store.graphs.items → AreUnprepared
   unprepared shut graphs tells =
-      let d : D = any_of call.before.store.graphs.items shut.0 shut.1 in (
+      let d : D = some_of call.before.store.graphs.items shut.0 shut.1 in (
         shut.0,
         omega (arith, shut.1, tells.graphs.many),
         subst (λ (x : Option (List ℕ)). IfSome x IsShutGraph) (tells.graphs.told shut.0 d shut.1) (shut.2 d),
@@ -51,7 +51,7 @@ module _ {D M : Type 0} (state : D → DiskState) (faults : M → ℕ) (job : Jo
   pub prepared : All (λ disk. IsOpenDevice (state disk)) call.before.store.graphs.items → OfTold state call.before.store IsPrepared
   prepared are graphs tells e below =
       let here : e < length call.before.store.graphs.items = omega (arith, below, tells.graphs.many) in
-      let d : D = any_of call.before.store.graphs.items e here in
+      let d : D = some_of call.before.store.graphs.items e here in
       subst (λ (x : Option (List ℕ)). IfSome x IsOpenGraph) (tells.graphs.told e d here)
       (All-get_or (λ (disk : D). IsOpenDevice (state disk)) call.before.store.graphs.items e d here are).gate
 

@@ -4,6 +4,7 @@ use Rattle.std.specs.Prelude.{Vec}
 use Rattle.std.specs.Global.{Global}
 use Rattle.std.proofs.lemmas.Bool.{cases_lt}
 use Rattle.ports.specs.Disk.{DiskState, IsDisk, InEveryImage}
+use Rattle.ports.specs.Devices.{MetersGoOn}
 use Rattle.graph_model.specs.declared.edge.Edge.{Edge}
 use Rattle.graph_model.specs.declared.job.Job.{Job}
 use Rattle.graph_model.specs.Jobs.{IsWellFormedJob}
@@ -20,7 +21,7 @@ use Rattle.store_reader.specs.declared.store.Store.{Store}
 use Rattle.store_reader.specs.Devices.{SomeShut}
 use Rattle.storage_engine.specs.Preparing.{Prepares}
 use Rattle.epoch_laws.specs.Phases.{edge_shelf}
-use Rattle.round_steps.specs.Going.{AreDevices, MetersGoOn}
+use Rattle.round_steps.specs.Going.{AreDevices}
 use Rattle.round_steps.proofs.Kept.{meters_then, meter_rose_later}
 use Rattle.round_loop.specs.declared.run.Start.TheVariants.{Fresh}
 use Rattle.round_loop.specs.declared.run.Done.{Done}

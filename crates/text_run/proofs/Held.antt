@@ -2,12 +2,13 @@
 use Rattle.std.proofs.Common.{◌∙◌, inl, inr, ℕ, List, [], Option, refl, sym, subst, arith}
 use Rattle.std.specs.List.{All}
 use Rattle.ports.specs.Disk.{DiskState, IsDisk}
+use Rattle.ports.specs.Devices.{MetersGoOn}
 use Rattle.graph_model.specs.declared.job.Job.{Job}
 use Rattle.graph_model.specs.Answer.{edges}
 use Rattle.store_reader.specs.declared.store.Store.{Store}
 use Rattle.store_reader.specs.Devices.{IsOpenDevice}
 use Rattle.chunk_cursor.specs.declared.view.View.{View}
-use Rattle.round_steps.specs.Going.{MetersGoOn, MeterRose}
+use Rattle.round_steps.specs.Going.{MeterRose}
 use Rattle.round_loop.specs.declared.run.Start.TheVariants.{Fresh}
 use Rattle.round_loop.specs.Keeping.{moment}
 use Rattle.endings.specs.declared.ending.Ending.{Ending}

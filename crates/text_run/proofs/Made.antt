@@ -1,5 +1,5 @@
 -- A store that was made, as the rounds find it.
-use Rattle.std.proofs.Common.{◌≡◌, ◌∙◌, ℕ, ◌<◌, List, [], length, get_or, Option, Some, IfSome, Ok, refl, ap, subst, arith}
+use Rattle.std.proofs.Common.{◌≡◌, ◌∙◌, ℕ, ◌<◌, List, [], length, get_or, Option, Some, IfSome, Ok, ap, subst, arith}
 use Rattle.std.proofs.lemmas.List.Elements.{All-weaker}
 use Rattle.ports.specs.Disk.{DiskState}
 use Rattle.graph_model.specs.declared.edge.Edge.{Edge}
@@ -7,7 +7,8 @@ use Rattle.graph_model.specs.declared.job.Job.{Job}
 use Rattle.graph_model.specs.Jobs.{IsWellFormedJob}
 use Rattle.graph_model.specs.Programs.{rules_of}
 use Rattle.graph_model.specs.Answer.{edges}
-use Rattle.partitioner.specs.Splits.{IsSplitOf, split_for}
+use Rattle.partitioner.specs.Splits.{split_for}
+use Rattle.partitioner.proofs.Made.{is_split_for}
 use Rattle.chunk_cursor.specs.declared.view.View.{View}
 use Rattle.chunk_file.specs.declared.index.Place.{Place}
 use Rattle.store_model.specs.Graphs.{graph}
@@ -23,10 +24,6 @@ use Rattle.store_edges.proofs.Standing.{has_edges as edges_of_store}
 use Rattle.store_rounds.specs.Making.{LeaveMade, IsMadeStore}
 use Rattle.run_model.specs.Calls.{IsReady, Tells}
 use Rattle.text_run.proofs.Prepared.{beats, store_made, graphs_made, values_made, lanes_made, spills_made}
-
--- the split of a job
-pub of_job : (job : Job) → IsSplitOf job (split_for job)
-of_job job = record { vertices = refl; engines = refl; parts = refl; span = refl }
 
 -- a run that makes all rounds has a good start on any devices
 pub good_start : {D : Type 0} (state : D → DiskState) (job : Job) (graph : List Edge) (devices : List D) → IsGoodStart (rules_of job.program) job graph state Fresh devices
@@ -91,7 +88,7 @@ module _ {D M : Type 0} (state : D → DiskState) (job : Job) (well : IsWellForm
         exactly (state (get_or new.graphs.items e d)).bytes (graph job prepares.made.0 e) after.0 (prepares.made.1.devices e d below).read after.1
 
     pub has_edges : HasEdges state job (split_for job) index new.graphs.items prepares.made.0
-    has_edges = edges_of_store state job prepares.made.0 new.graphs.items prepares.many.0 graph_told storable (split_for job) (of_job job) index prepares.made.1.places
+    has_edges = edges_of_store state job prepares.made.0 new.graphs.items prepares.many.0 graph_told storable (split_for job) (is_split_for job) index prepares.made.1.places
 
     pub told_made : IsTold state new
     told_made =

@@ -2,6 +2,7 @@
 use Rattle.std.proofs.Common.{◌≡◌, ◌∙◌, ◌⊎◌, inl, inr, ℕ, List, [], Option, Some, Err, refl, sym, subst, arith}
 use Rattle.ports.specs.Disk.{DiskState}
 use Rattle.ports.specs.Faults.{Rose}
+use Rattle.ports.specs.Devices.{OneRose, MetersGoOn}
 use Rattle.graph_model.specs.declared.edge.TextFault.TheVariants as fault
 use Rattle.graph_model.specs.declared.job.Job.{Job}
 use Rattle.graph_model.specs.EdgeText.{text_limit}
@@ -12,8 +13,6 @@ use Rattle.store_reader.specs.Devices.{SomeShut}
 use Rattle.storage_engine.specs.declared.fault.PrepareFault.{PrepareFault}
 use Rattle.storage_engine.specs.declared.fault.PrepareFault.TheVariants as prepare
 use Rattle.storage_engine.specs.Preparing.{HasPrepareCause, IsOfText, Prepares}
-use Rattle.storage_engine.specs.Steps.{OneRose}
-use Rattle.round_steps.specs.Going.{MetersGoOn}
 use Rattle.round_loop.specs.declared.run.Start.TheVariants.{Fresh}
 use Rattle.round_loop.specs.Keeping.{moment}
 use Rattle.store_rounds.specs.Making.{LeaveMade}

@@ -3,9 +3,9 @@ ghost use Rattle.std.specs.Prelude.{◌≡◌, ◌+◌, ◌^◌, ◌≤◌, List
 ghost use Rattle.graph_model.specs.Jobs.{IsWellFormedJob};
 ghost use Rattle.store_reader.specs.Devices.{SomeShut};
 ghost use Rattle.round_loop.specs.Keeping.{moment};
-ghost use Rattle.round_steps.specs.Going.{MetersGoOn};
 ghost use Rattle.run_model.specs.Calls.{IsReady};
 ghost use Rattle.run_model.specs.Runs.{IsRun};
+ghost use Rattle.ports.specs.Devices.{MetersGoOn};
 ghost use Rattle.text_run.specs.Refusals;
 
 use answer_lines::AnswerRoom;

@@ -6,6 +6,7 @@ use Rattle.std.proofs.lemmas.List.Elements.{All-nil}
 use Rattle.graph_model.specs.declared.job.Job.{Job}
 use Rattle.graph_model.specs.declared.value.Update.{Update}
 use Rattle.graph_model.specs.Jobs.{parts_of}
+use Rattle.graph_model.proofs.ListLemmas.{at_set}
 use Rattle.ports.specs.Disk.{DiskState}
 use Rattle.chunk_model.proofs.Waiting.{hold_none}
 use Rattle.seeded_place.specs.Placing.{Placing, HasPlaced, update_stream}
@@ -13,7 +14,6 @@ use Rattle.phase_model.specs.declared.placed.Placed.{Placed}
 use Rattle.phase_model.specs.Lanes.{update_home}
 use Rattle.update_lanes.specs.Lanes.{HasChunks}
 use Rattle.update_lanes.specs.Outgoing.{Lists, waiting, AreBuffers, NoneWaits, Empties, FitsJob, HasSent}
-use Rattle.update_lanes.proofs.Written.{at_set}
 use Rattle.update_lanes.proofs.Sent.{waiting_at, length-waiting, length-empties, empties_room}
 
 -- the buffers below q were emptied

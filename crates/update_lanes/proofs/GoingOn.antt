@@ -1,10 +1,11 @@
 -- Calls of lanes, one after another.
-use Rattle.std.proofs.Common.{◌≡◌, ℕ, ◌<◌, ◌≤◌, List, length, get_or, refl, ◌∙◌, arith}
+use Rattle.std.proofs.Common.{◌≡◌, ℕ, ◌<◌, List, length, get_or, refl, ◌∙◌, arith}
 use Rattle.std.specs.Prelude.{Result, Ok, Err, IfErr, OnOk, OnErr}
 use Rattle.std.specs.Result.{IsErr, IsErrAnd}
 use Rattle.ports.specs.Disk.{DiskState}
-use Rattle.ports.specs.Faults.{Rose}
-use Rattle.update_lanes.specs.Lanes.{GoOn, OneRose}
+use Rattle.ports.proofs.Faults.{count_rose_before, count_rose_after}
+use Rattle.ports.specs.Devices.{OneRose}
+use Rattle.update_lanes.specs.Lanes.{GoOn}
 
 pub goes_on : {X : Type 0} (state : X → DiskState) (number : ℕ) (old mid new : List X) → GoOn state number old mid → GoOn state number mid new → GoOn state number old new
 goes_on state number old mid new first next = record {
@@ -17,21 +18,15 @@ goes_on state number old mid new first next = record {
 pub stays : {X : Type 0} (state : X → DiskState) (number : ℕ) (lanes : List X) → GoOn state number lanes lanes
 stays state number lanes = record { many = refl; beats = λ e d below early. early; later = λ e d below. omega arith; told = λ e d bytes below is. (bytes, is) }
 
-rose_more : (a b c : ℕ) → Rose a b → b ≤ c → Rose a c
-rose_more a b c rose later = omega (arith, rose, later)
-
-less_rose : (a b c : ℕ) → a ≤ b → Rose b c → Rose a c
-less_rose a b c less rose = omega (arith, less, rose)
-
 -- a count that rose is higher also after further calls
 pub rose_before : {X : Type 0} (state : X → DiskState) (number : ℕ) (old mid new : List X) → length mid ≡ length old → OneRose state old mid → GoOn state number mid new → OneRose state old new
-rose_before state number old mid new many rose next = (rose.0, rose.1, λ d. rose_more (state (get_or old rose.0 d)).faults (state (get_or mid rose.0 d)).faults (state (get_or new rose.0 d)).faults (rose.2 d) (next.later rose.0 d (omega (arith, many, rose.1))))
+rose_before state number old mid new many rose next = (rose.0, rose.1, λ d. count_rose_after (state (get_or old rose.0 d)).faults (state (get_or mid rose.0 d)).faults (state (get_or new rose.0 d)).faults (rose.2 d) (next.later rose.0 d (omega (arith, many, rose.1))))
 
 -- and one that rose later has risen since an earlier call
 pub rose_since : {X : Type 0} (state : X → DiskState) (number : ℕ) (old mid new : List X) → GoOn state number old mid → OneRose state mid new → OneRose state old new
 rose_since state number old mid new first rose =
     let below : rose.0 < length old = omega (arith, first.many, rose.1) in
-    (rose.0, below, λ d. less_rose (state (get_or old rose.0 d)).faults (state (get_or mid rose.0 d)).faults (state (get_or new rose.0 d)).faults (first.later rose.0 d below) (rose.2 d))
+    (rose.0, below, λ d. count_rose_before (state (get_or old rose.0 d)).faults (state (get_or mid rose.0 d)).faults (state (get_or new rose.0 d)).faults (first.later rose.0 d below) (rose.2 d))
 
 -- what an answer that came through a `?` says
 pub err_cause : {T E : Type 0} (r : Result T E) (P Q : E → Type 0) → ((fault : E) → P fault → Q fault) → IsErrAnd r P → IfErr r Q

@@ -8,10 +8,10 @@ use Rattle.graph_model.specs.declared.edge.Edge.{Edge}
 use Rattle.graph_model.specs.declared.value.Value.{Value}
 use Rattle.graph_model.specs.declared.value.Update.{Update}
 use Rattle.graph_model.specs.Programs.{Rules}
-use Rattle.graph_model.specs.Rounds.{value_at}
-use Rattle.phase_model.specs.Sends.{differs, update_to, sent_along, sent_by}
+use Rattle.graph_model.specs.Rounds.{value_at, differs}
+use Rattle.graph_model.proofs.ListLemmas.{at_set}
+use Rattle.phase_model.specs.Sends.{update_to, sent_along, sent_by}
 use Rattle.update_lanes.specs.Sending.{value_from, sending_changed, IsFrom, AreChanges}
-use Rattle.update_lanes.proofs.Written.{at_set}
 
 module _ (rules : Rules) (first : ℕ) (now : List Value) (marks : List Bool) where
   -- what an edge sends where its source has a mark

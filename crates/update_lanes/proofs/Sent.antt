@@ -9,6 +9,7 @@ use Rattle.graph_model.specs.declared.job.Job.{Job}
 use Rattle.graph_model.specs.declared.value.Update.{Update}
 use Rattle.graph_model.specs.Jobs.{parts_of}
 use Rattle.graph_model.specs.Partitions.{partition_of}
+use Rattle.graph_model.proofs.ListLemmas.{at_set, set-twice}
 use Rattle.partitioner.specs.declared.split.Split.{Split}
 use Rattle.partitioner.specs.Splits.{IsSplitOf}
 use Rattle.ports.specs.Disk.{DiskState}
@@ -22,7 +23,7 @@ use Rattle.phase_model.specs.declared.placed.Placed.{Placed}
 use Rattle.phase_model.specs.Lanes.{update_home}
 use Rattle.update_lanes.specs.Lanes.{HasMade}
 use Rattle.update_lanes.specs.Outgoing.{Lists, waiting, IsBuffer, AreBuffers, NoneFull, FitsJob, HasSent, Gains, Empties}
-use Rattle.update_lanes.proofs.Written.{at_set, length-places_of, length-placed}
+use Rattle.update_lanes.proofs.Written.{length-places_of, length-placed}
 
 -- the partition of an update, by the split of the job
 pub home_of_update : (job : Job) (split : Split) (u : Update) (p : ℕ) → IsSplitOf job split → p ≡ partition_of split.vertices split.parts u.dst → p ≡ update_home job u
@@ -89,11 +90,6 @@ waiting-gains : (p : ℕ) (u : Update) (old new : Lists) → p < length old → 
 waiting-gains p u old new within g =
     ap waiting g.is ∙ map-set (λ (v : Vec Update Global). v.items) old p g.buffer
     ∙ ap (λ ys. set (waiting old) p ys) (g.gained g.buffer ∙ ap (λ ys. ys ++ u ∷ []) (sym (waiting_at old p g.buffer within)))
-
-set-twice : {X : Type 0} (xs : List X) (p : ℕ) (x y : X) → set (set xs p x) p y ≡ set xs p y
-set-twice [] p x y = refl
-set-twice (z ∷ xs) zero x y = refl
-set-twice (z ∷ xs) (suc p) x y = ap (λ rest. z ∷ rest) (set-twice xs p x y)
 
 waiting-empties : (p : ℕ) (u : Update) (old mid new : Lists) → Gains p u old mid → Empties p mid new → waiting new ≡ set (waiting old) p []
 waiting-empties p u old mid new g e =

@@ -1,13 +1,14 @@
 -- One chunk more on the lanes.
-use Rattle.std.proofs.Common.{◌≡◌, ◌≢◌, ℕ, ◌+◌, ◌==◌, ◌<◌, ◌≤◌, Bool, true, false, cond, Option, Some, None, IfSome, Result, List, [], ◌∷◌, ◌++◌, length, map, take, get_or, set, refl, sym, ◌∙◌, ap, subst, arith, zero-add, append-nil, append_assoc, length-append, length-set}
+use Rattle.std.proofs.Common.{◌≡◌, ◌≢◌, ℕ, ◌+◌, ◌==◌, ◌<◌, ◌≤◌, cond, Option, Some, None, IfSome, Result, List, [], ◌∷◌, ◌++◌, length, map, take, get_or, set, refl, sym, ◌∙◌, ap, subst, arith, zero-add, append-nil, append_assoc, length-append, length-set}
 use Rattle.std.specs.List.{enumerate_from, filter}
 use Rattle.std.proofs.Math.Seq.{take-append_seam}
-use Rattle.std.proofs.lemmas.List.{map-append, get_or-set_same, get_or-set_other, get_or_default}
+use Rattle.std.proofs.lemmas.List.{map-append, get_or_default}
 use Rattle.std.proofs.lemmas.List.Elements.{filter-append}
 use Rattle.std.proofs.lemmas.List.FromFn.{length-enumerate_from}
 use Rattle.std.proofs.lemmas.List.Sums.{sum_by-append}
-use Rattle.std.proofs.lemmas.Bool.{eqb-true, eqb-false, eq-eqb, ne_eqb}
+use Rattle.std.proofs.lemmas.Bool.{eq-eqb, ne_eqb}
 use Rattle.graph_model.specs.declared.value.Update.{Update}
+use Rattle.graph_model.proofs.ListLemmas.{at_set, enumerate-more}
 use Rattle.ports.specs.Bytes.{Torn}
 use Rattle.ports.specs.Disk.{DiskState, Writes}
 use Rattle.ports.specs.Told.{AsTold}
@@ -21,14 +22,6 @@ use Rattle.seeded_place.specs.Placing.{Placing, HasPlaced, engine_of, placed, on
 use Rattle.phase_model.specs.declared.placed.Placed.{Placed}
 use Rattle.phase_model.specs.Shelves.{Shelf, places_of, width_of_chunks}
 use Rattle.update_lanes.specs.Lanes.{HasChunks, AreWritten, HasMade, GoOn}
-
--- Numbered lists with one element more.
-pub enumerate-more : {X : Type 0} (first : ℕ) (xs : List X) (x : X) → enumerate_from first (xs ++ x ∷ []) ≡ enumerate_from first xs ++ (first + length xs, x) ∷ []
-enumerate-more {X} first [] x = ap (λ k. (k, x) ∷ []) (omega arith)
-enumerate-more {X} first (y ∷ ys) x =
-    let more = enumerate-more (first + 1) ys x in
-    let number : first + 1 + length ys ≡ first + length (y ∷ ys) = omega arith in
-    ap (λ rest. (first, y) ∷ rest) (more ∙ ap (λ k. enumerate_from (first + 1) ys ++ (k, x) ∷ []) number)
 
 -- an item beside its engine
 abbrev beside : {X : Type 0} → (seed stream engines : ℕ) → ℕ × X → ℕ × X
@@ -107,18 +100,6 @@ lane_more made c old new has grown appended = record {
   size_is = let more = sum_by-append (λ (d : Chunk Update). chunk_width 12 (length d.items)) made (c ∷ []) in omega (arith, more, grown, has.size_is);
   bytes_are = told_more made c old.bytes new.bytes has.bytes_are appended;
 }
-
--- an entry after a write
-at_set_by : {X : Type 0} (P : ℕ → X → Type 0) (xs : List X) (e k : ℕ) (new d : X) → e < length xs → (k ≡ e → P e new) → (k ≢ e → P k (get_or xs k d)) → (same : Bool) → (k == e) ≡ same → P k (get_or (set xs e new) k d)
-at_set_by P xs e k new d within here other true is =
-    let same : k ≡ e = eqb-true k e is in
-    subst (λ j. P j (get_or (set xs e new) j d)) (sym same) (subst (P e) (sym (get_or-set_same xs e new d within)) (here same))
-at_set_by P xs e k new d within here other false is =
-    let apart : k ≢ e = eqb-false k e is in
-    subst (P k) (sym (get_or-set_other xs e k new d apart)) (other apart)
-
-pub at_set : {X : Type 0} (P : ℕ → X → Type 0) (xs : List X) (e k : ℕ) (new d : X) → e < length xs → (k ≡ e → P e new) → (k ≢ e → P k (get_or xs k d)) → P k (get_or (set xs e new) k d)
-at_set P xs e k new d within here other = at_set_by P xs e k new d within here other (k == e) refl
 
 -- lanes of which one was written to go on
 pub lane_goes_on : {X T E : Type 0} (state : X → DiskState) (number at : ℕ) (piece : List ℕ) (lanes : List X) (e : ℕ) (old new : X) {result : Result T E} → e < length lanes → get_or lanes e new ≡ old → Writes number at piece (state old) (state new) result → GoOn state number lanes (set lanes e new)

@@ -3,7 +3,6 @@ use Rattle.std.specs.Prelude.{◌≡◌, ℕ, ◌+◌, ◌*◌, ◌==◌, ◌<�
 use Rattle.std.specs.List.{All}
 use Rattle.graph_model.specs.declared.value.Update.{Update}
 use Rattle.ports.specs.Disk.{DiskState}
-use Rattle.ports.specs.Faults.{Rose}
 use Rattle.chunk_model.specs.Chunks.{Chunk}
 use Rattle.chunk_model.specs.Layout.{update_layout}
 use Rattle.chunk_model.specs.ChunkBytes.{bytes_of_chunks}
@@ -43,11 +42,6 @@ pub record GoOn {X : Type 0} (state : X → DiskState) (number : ℕ) (old new :
   pub beats : (e : ℕ) (d : X) → e < length old → (state (slice_index_or old e d)).beat ≤ number → (state (slice_index_or new e d)).beat ≤ number
   pub later : (e : ℕ) (d : X) → e < length old → (state (slice_index_or old e d)).faults ≤ (state (slice_index_or new e d)).faults
   pub told : (e : ℕ) (d : X) (bytes : List ℕ) → e < length old → (state (slice_index_or old e d)).bytes ≡ Some bytes → (now : List ℕ) × ((state (slice_index_or new e d)).bytes ≡ Some now)
-
--- the count of faults of one of them rose
-abbrev pub OneRose : {X : Type 0} → (X → DiskState) → (old new : List X) → Type 0
-OneRose {X} state old new =
-    (e : ℕ) × (e < length old) × ((d : X) → Rose (state (slice_index_or old e d)).faults (state (slice_index_or new e d)).faults)
 
 -- a place on an engine and in a partition that there are
 pub record IsWithin (engines parts : ℕ) (place : Placed) : Type 0 where

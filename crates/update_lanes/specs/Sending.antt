@@ -3,8 +3,8 @@ use Rattle.std.specs.Prelude.{◌≡◌, ℕ, ◌-◌, ◌<◌, ◌≤◌, Bool,
 use Rattle.graph_model.specs.declared.edge.Edge.{Edge}
 use Rattle.graph_model.specs.declared.value.Value.{Value}
 use Rattle.graph_model.specs.Programs.{Rules}
-use Rattle.graph_model.specs.Rounds.{value_at}
-use Rattle.phase_model.specs.Sends.{Sending, differs}
+use Rattle.graph_model.specs.Rounds.{value_at, differs}
+use Rattle.phase_model.specs.Sends.{Sending}
 
 -- the value of a vertex, where the vertices from `first` on have these
 abbrev pub value_from : ℕ → List Value → ℕ → Value

@@ -4,7 +4,8 @@ ghost use Rattle.std.specs.List.{All};
 ghost use Rattle.graph_model.specs.declared.value.Update.{Update as UpdateOf};
 ghost use Rattle.chunk_model.specs.Chunks.{Chunk};
 ghost use Rattle.chunk_model.specs.Layout.{holds_update};
-ghost use Rattle.update_lanes.specs.Lanes.{HasMade, HasNoted, AreReady, GoOn, OneRose};
+ghost use Rattle.ports.specs.Devices.{OneRose};
+ghost use Rattle.update_lanes.specs.Lanes.{HasMade, HasNoted, AreReady, GoOn};
 
 use chunk_file::append_chunk;
 use graph_model::Update;

@@ -10,7 +10,8 @@ ghost use Rattle.std.specs.List.{All};
 ghost use Rattle.chunk_model.specs.Chunks.{Chunk};
 ghost use Rattle.seeded_place.specs.Placing.{HasPlaced};
 ghost use Rattle.phase_model.specs.Lanes.{update_shelf};
-ghost use Rattle.update_lanes.specs.Lanes.{HasMade, HasNoted, HasFlushed, IsWithin, AreWritten, AreReady, GoOn, OneRose};
+ghost use Rattle.ports.specs.Devices.{OneRose};
+ghost use Rattle.update_lanes.specs.Lanes.{HasMade, HasNoted, HasFlushed, IsWithin, AreWritten, AreReady, GoOn};
 ghost use Rattle.update_lanes.specs.Outgoing.{HasRoom, AreBuffers, NoneWaits, NoneFull, HasSent, IsSameRoom, Gains, Empties};
 
 use crate::lanes::{LaneFault, write_chunk};

@@ -2,8 +2,10 @@
 ghost use Rattle.std.specs.Prelude.{◌≡◌, ◌<◌, List, length, IfErr, OnOk, OnErr};
 ghost use Rattle.std.specs.List.{All};
 ghost use Rattle.graph_model.specs.declared.value.Value.{Value as ValueOf};
-ghost use Rattle.phase_model.specs.Sends.{sent_by, differs};
-ghost use Rattle.update_lanes.specs.Lanes.{AreReady, OneRose};
+ghost use Rattle.graph_model.specs.Rounds.{differs};
+ghost use Rattle.phase_model.specs.Sends.{sent_by};
+ghost use Rattle.ports.specs.Devices.{OneRose};
+ghost use Rattle.update_lanes.specs.Lanes.{AreReady};
 ghost use Rattle.update_lanes.specs.Outgoing.{HasRoom, NoneFull, SendsOn, StopsOn};
 ghost use Rattle.update_lanes.specs.Sending.{sending_all, sending_changed, IsFrom, AreChanges};
 

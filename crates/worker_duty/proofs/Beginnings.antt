@@ -11,14 +11,11 @@ use Rattle.chunk_object.specs.Object.{put_at}
 use Rattle.chunk_object.specs.History.{final, entries_of, count_step, count_from, opens, exhausts, greets, admits, refusals_of, admissions_of, len_after, opened_from, opened_len, total, EpochSoFar, no_epoch, engine_count, engines_after, next_epoch, epoch_after, epoch_step, epoch_of}
 use Rattle.chunk_object.specs.Epochs.{cursor_of, Terms, entry_of, first_entries, opens_of, greets_of, splits_of}
 use Rattle.chunk_object.proofs.Histories.{put_at_here, put_at_else, final-append, count-append, total_same_below}
+use Rattle.chunk_object.proofs.Covered.{all_both}
 use Rattle.chunk_cursor.specs.declared.view.View.{View}
 use Rattle.chunk_cursor.specs.View.{knows}
 use Rattle.phase_model.specs.Taken.{taken}
-use Rattle.worker_duty.specs.Views.{MayWork}
-
-both : {X : Type 0} (P : X → Type 0) (xs ys : List X) → AllByRecursion P xs → AllByRecursion P ys → AllByRecursion P (xs ++ ys)
-both P [] ys left right = right
-both P (x ∷ xs) ys left right = (left.0, both P xs ys left.1 right)
+use Rattle.worker_duty.specs.Views.{MayWork, taken_by_seat}
 
 -- Counts since a start.
 module _ (starts hits : Entry → Bool) where
@@ -76,7 +73,7 @@ module _ (terms : Terms) (lens : ℕ → ℕ) where
   rows_all P each a zero = tt
   rows_all P each a (suc n) =
       subst (AllByRecursion P) (sym (first-append (map (opening a) (range_with_len 0 terms.partitions)) (rows (a + 1) n)))
-      (both P (first_entries (map (opening a) (range_with_len 0 terms.partitions))) (first_entries (rows (a + 1) n)) (row_all P (opening a) (each a) 0 terms.partitions) (rows_all P each (a + 1) n))
+      (all_both P (first_entries (map (opening a) (range_with_len 0 terms.partitions))) (first_entries (rows (a + 1) n)) (row_all P (opening a) (each a) 0 terms.partitions) (rows_all P each (a + 1) n))
 
   rows_start : (starts hits : Entry → Bool) (engine partition : ℕ) → starts (entry_of 0 8 (opening engine partition)) ≡ true → partition < terms.partitions → (a n : ℕ) → a ≤ engine → engine < a + n → HasStart starts hits (first_entries (rows a n))
   rows_start starts hits engine partition is below a zero low high = absurd (omega arith)
@@ -91,7 +88,7 @@ module _ (terms : Terms) (lens : ℕ → ℕ) where
   rows_within P top each a zero low = tt
   rows_within P top each a (suc n) low =
       subst (AllByRecursion P) (sym (first-append (map (opening a) (range_with_len 0 terms.partitions)) (rows (a + 1) n)))
-      (both P (first_entries (map (opening a) (range_with_len 0 terms.partitions))) (first_entries (rows (a + 1) n)) (within 0 terms.partitions (omega arith)) (rows_within P top each (a + 1) n (omega arith)))
+      (all_both P (first_entries (map (opening a) (range_with_len 0 terms.partitions))) (first_entries (rows (a + 1) n)) (within 0 terms.partitions (omega arith)) (rows_within P top each (a + 1) n (omega arith)))
     where
       within : (i m : ℕ) → i + m ≤ terms.partitions → AllByRecursion P (first_entries (map (opening a) (range_with_len i m)))
       within i zero fits = tt
@@ -228,8 +225,8 @@ module _ (terms : Terms) (lens : ℕ → ℕ) (past : List Entry) (before splits
 
   all_new : (P : Entry → Type 0) → ((opened : ℕ) → P (entry_of 0 8 (Open opened (lens opened)))) → ((p : ℕ) → P (entry_of 0 8 (Greet p))) → ((serial worker : ℕ) → P (entry_of 0 8 (Split serial worker))) → AllByRecursion P new_entries
   all_new P opens_too greets_too splits_too =
-      both P (first_entries the_rows) (first_entries (greets_of terms) ++ first_entries (splits_of before splits)) (rows_all terms lens P (λ engine partition. opens_too (cursor_of engine partition)) 0 terms.engines)
-      (both P (first_entries (greets_of terms)) (first_entries (splits_of before splits)) (row_all P Greet greets_too 0 terms.partitions) (row_all P (λ worker. Split (suc (before + worker)) worker) (λ worker. splits_too (suc (before + worker)) worker) 0 splits))
+      all_both P (first_entries the_rows) (first_entries (greets_of terms) ++ first_entries (splits_of before splits)) (rows_all terms lens P (λ engine partition. opens_too (cursor_of engine partition)) 0 terms.engines)
+      (all_both P (first_entries (greets_of terms)) (first_entries (splits_of before splits)) (row_all P Greet greets_too 0 terms.partitions) (row_all P (λ worker. Split (suc (before + worker)) worker) (λ worker. splits_too (suc (before + worker)) worker) 0 splits))
 
   module _ (starts hits : Entry → Bool) where
     row_begins : (engine p : ℕ) → engine < terms.engines → p < terms.partitions → starts (entry_of 0 8 (opening terms lens engine p)) ≡ true → HasStart starts hits new_entries
@@ -264,14 +261,14 @@ module _ (terms : Terms) (lens : ℕ → ℕ) (past : List Entry) (before splits
 
   calls_open : (a n : ℕ) → AllByRecursion IsOpen (rows terms lens a n)
   calls_open a zero = tt
-  calls_open a (suc n) = both IsOpen (map (opening terms lens a) (range_with_len 0 terms.partitions)) (rows terms lens (a + 1) n) (row_open a 0 terms.partitions) (calls_open (a + 1) n)
+  calls_open a (suc n) = all_both IsOpen (map (opening terms lens a) (range_with_len 0 terms.partitions)) (rows terms lens (a + 1) n) (row_open a 0 terms.partitions) (calls_open (a + 1) n)
     where
       row_open : (engine i m : ℕ) → AllByRecursion IsOpen (map (opening terms lens engine) (range_with_len i m))
       row_open engine i zero = tt
       row_open engine i (suc m) = (tt, row_open engine (i + 1) m)
 
   rest_quiet : AllByRecursion Quiet the_rest
-  rest_quiet = both Quiet (greets_of terms) (splits_of before splits) (greets_quiet 0 terms.partitions) (splits_quiet 0 splits)
+  rest_quiet = all_both Quiet (greets_of terms) (splits_of before splits) (greets_quiet 0 terms.partitions) (splits_quiet 0 splits)
     where
       greets_quiet : (i m : ℕ) → AllByRecursion Quiet (map Greet (range_with_len i m))
       greets_quiet i zero = tt
@@ -336,3 +333,6 @@ module _ (terms : Terms) (lens : ℕ → ℕ) (past : List Entry) (before splits
           once = ap (admissions_of v.worker p) known ∙ no_admission v.worker p within;
         };
       }
+
+pub nothing_taken : (v : View) → v.story ≡ [] → taken_by_seat v ≡ []
+nothing_taken v none = ap (λ (story : List Entry). taken (map (λ (e : Entry). e.call) story)) none

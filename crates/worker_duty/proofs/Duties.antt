@@ -11,11 +11,12 @@ use Rattle.chunk_cursor.specs.declared.view.View.{View}
 use Rattle.chunk_cursor.specs.View.{with_calls}
 use Rattle.chunk_cursor.proofs.Knowing.{with_calls-append}
 use Rattle.phase_model.proofs.Lists.{claims-append, admissions-append}
+use Rattle.graph_model.proofs.ListLemmas.{All-front}
 use Rattle.worker_duty.specs.declared.acts.Worked.{Worked}
 use Rattle.worker_duty.specs.Shares.{DrainsTo, HelpsAt, is_master, OwnTo, OthersTo}
 use Rattle.worker_duty.specs.Views.{MayWorkAt, HasWorked}
 use Rattle.worker_duty.specs.Working.{IsPiece}
-use Rattle.worker_duty.proofs.Sorted.{All-front, filter_none, fills_none, fills_all}
+use Rattle.worker_duty.proofs.Sorted.{filter_none, fills_none, fills_all}
 use Rattle.worker_duty.proofs.Elsewhere.{work_still}
 use Rattle.worker_duty.proofs.Shares.{apart_partitions, drained_on, drained_ends, some_drained, some_helps}
 

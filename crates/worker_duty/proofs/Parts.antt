@@ -1,5 +1,5 @@
 -- The work, part by part.
-use Rattle.std.proofs.Common.{◌≡◌, ℕ, ◌+◌, ◌≤◌, ◌<◌, Bool, true, false, not, List, [], ◌++◌, refl, ap, sym, ◌∙◌, subst, arith, append_assoc}
+use Rattle.std.proofs.Common.{◌≡◌, ℕ, ◌+◌, ◌≤◌, ◌<◌, Bool, true, false, List, [], ◌++◌, refl, ap, sym, ◌∙◌, subst, arith, append_assoc}
 use Rattle.std.specs.List.{All}
 use Rattle.std.proofs.lemmas.Bool.{false≢true}
 use Rattle.chunk_object.specs.declared.call.Call.{Call}
@@ -11,14 +11,6 @@ use Rattle.worker_duty.specs.declared.acts.Worked.{Worked}
 use Rattle.worker_duty.specs.Slots.{Fills}
 use Rattle.worker_duty.specs.Working.{IsPiece}
 use Rattle.worker_duty.proofs.Sorted.{fills_none, fills_skip, fills_more, fills_all}
-
-pub not_false : (b : Bool) → not b ≡ false → b ≡ true
-not_false true is = refl
-not_false false is = absurd (false≢true (sym is))
-
-pub not_true : (b : Bool) → not b ≡ true → b ≡ false
-not_true true is = absurd (false≢true is)
-not_true false is = refl
 
 -- what was worked, with these numbers
 abbrev pub worked_of : Bool → ℕ → ℕ → Worked

@@ -17,11 +17,12 @@ use Rattle.steal_policy.specs.declared.proposal.Proposal.{Proposal}
 use Rattle.steal_policy.specs.declared.proposal.Proposal.TheVariants as answer
 use Rattle.steal_policy.specs.Proposals.{Tries, IsProposal, Proposes}
 use Rattle.phase_model.proofs.Lists.{claims-append, admissions-append}
+use Rattle.graph_model.proofs.ListLemmas.{All-front}
 use Rattle.worker_duty.specs.declared.acts.Worked.{Worked}
 use Rattle.worker_duty.specs.Shares.{DrainsCursor, DrainsTo, HelpsAt}
 use Rattle.worker_duty.specs.Views.{ask_of, IsReady}
 use Rattle.worker_duty.specs.Working.{IsPiece}
-use Rattle.worker_duty.proofs.Sorted.{All-front, fills_none, fills_all}
+use Rattle.worker_duty.proofs.Sorted.{fills_none, fills_all}
 use Rattle.worker_duty.proofs.Elsewhere.{Leaves, ready_still, leaves_claims}
 use Rattle.worker_duty.proofs.Counts.{admits_by, taken-proposal, admissions-proposal}
 use Rattle.worker_duty.proofs.Parts.{worked_of}

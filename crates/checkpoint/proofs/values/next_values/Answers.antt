@@ -1,8 +1,8 @@
 use Rattle.std.proofs.Common.{◌≡◌, ◌∙◌, ◌≤◌, ◌≢◌, ℕ, List, get_or, ap, inl, inr, subst, ◌<◌, ◌^◌, length, [], ◌∷◌, zero, suc, cond, true, false, Bool, refl, arith, get_or-set_other}
 use Rattle.graph_model.specs.declared.value.Value.{Value}
+use Rattle.graph_model.specs.Rounds.{differs}
 use Rattle.std.proofs.lemmas.Bool.{cases_lt}
 use mir.Val.{bool_byte}
-use Rattle.checkpoint.specs.Applied.{differs}
 use Rattle.checkpoint.proofs.ValueSteps.{next_more, changes_more}
 use Rattle.checkpoint.proofs.values.next_values.Goals as goal
 

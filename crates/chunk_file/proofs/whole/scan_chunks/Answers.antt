@@ -1,8 +1,9 @@
 use Rattle.std.proofs.Common.{◌≡◌, ℕ, ◌+◌, ◌*◌, ◌<◌, length, drop, ap, sym, subst, inl, arith}
 use Rattle.std.specs.Prelude.{IfSome}
 use Rattle.ports.specs.Faults.{Rose}
+use Rattle.ports.proofs.Faults.{count_rose_before}
 use Rattle.chunk_file.specs.Causes.{HasChunkCause}
-use Rattle.chunk_file.proofs.Faulty.{handed_on, rose_since}
+use Rattle.chunk_file.proofs.Faulty.{handed_on}
 use Rattle.chunk_file.specs.Places.{total_of, on_graph}
 use Rattle.chunk_file.specs.Scans.{Scanned, IsNext, NoEdgeChunk, StopsAt}
 use Rattle.chunk_file.proofs.Heads.{as_told_of_any, as_told_of_three}
@@ -35,7 +36,7 @@ returns-in-Err-clause-cause g c =
     subst (λ m. HasChunkCause (Rose before now) (λ at. (at ≡ c.chunks.at) × IfSome told (NoEdgeChunk c.args.format c.args.split.now m c.chunks.at)) ⊥ c.in-Err.fault)
     c.chunks.auto.edges c.in-Err.ensures.cause in
     handed_on (Rose before now) (Rose first now) (λ at. (at ≡ c.chunks.at) × none) stops
-    (rose_since first before now c.chunks.invariant.later)
+    (count_rose_before first before now c.chunks.invariant.later)
     (λ at damage. subst stops (sym damage.0)
     (as_told_of_three (λ bytes. Scanned c.args.format c.args.split.now most c.args.engine bytes c.args.into.now c.chunks.into (drop c.chunks.at bytes))
     (λ bytes. size ≡ length bytes) (NoEdgeChunk c.args.format c.args.split.now most c.chunks.at)

@@ -1,6 +1,6 @@
 use Rattle.std.proofs.Common.{rules, length, sym, ap, ◌∙◌, subst, slice_index_or, arith}
+use Rattle.list_moves.proofs.Moving.{given_back}
 use Rattle.gather_epoch.specs.Desks.{IsReady, HasWorkedAt}
-use Rattle.gather_epoch.proofs.Moving.{given_back}
 use Rattle.gather_epoch.proofs.epoch.fork_gather.Goals as goal
 
 pub fork_all-requires-after_bounds : goal.fork_all-requires-after_bounds

@@ -1,8 +1,8 @@
 use Rattle.std.proofs.Common.{◌∷◌, map, ap, sym, ◌∙◌, arith}
 use Rattle.worker_outcomes.specs.Lowest.{lowest_outcome}
 use Rattle.worker_outcomes.proofs.Lowest.{lowest_first}
+use Rattle.list_moves.proofs.Moving.{back_more, sum_first, sum_none}
 use Rattle.gather_epoch.specs.Dealing.{seat_at, meter_at, replicas_at, spill_at, room_at, outcome_at, claims_at, admitted_at}
-use Rattle.gather_epoch.proofs.Moving.{back_more, sum_first, sum_none}
 use Rattle.gather_epoch.proofs.moves.collect.Goals as goal
 
 pub loop-preserved : goal.loop-preserved

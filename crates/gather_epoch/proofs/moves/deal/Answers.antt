@@ -1,6 +1,6 @@
 use Rattle.std.proofs.Common.{refl, arith}
+use Rattle.list_moves.proofs.Moving.{dealt_more, numbers_more}
 use Rattle.gather_epoch.specs.Dealing.{seat_at, meter_at, replicas_at, spill_at, room_at, number_at}
-use Rattle.gather_epoch.proofs.Moving.{dealt_more, numbers_more}
 use Rattle.gather_epoch.proofs.moves.deal.Goals as goal
 
 pub loop-worker-preserved : goal.loop-worker-preserved

@@ -3,10 +3,11 @@ use Rattle.std.specs.List.{All}
 use Rattle.std.specs.Vec.{with_items}
 use Rattle.std.proofs.lemmas.List.{length-map}
 use Rattle.ports.specs.Disk.{InEveryImage}
+use Rattle.ports.proofs.Faults.{on_err}
+use Rattle.ports.specs.Devices.{Each, OneRose}
 use Rattle.store_model.specs.Heads.{IsShutGraph}
-use Rattle.restart.specs.Devices.{Each, OneRose}
 use Rattle.restart.specs.Dropping.{Closes, Empties}
-use Rattle.restart.proofs.Devices.{on_err_so, on_err_map, given_back}
+use Rattle.restart.proofs.Devices.{on_err_map, given_back}
 use Rattle.restart.proofs.Dropped.{graphs_dropped, graphs_closed, all_values_emptied, all_values_kept, stops_of_drop, rose_later}
 use Rattle.restart.proofs.dropping.drop_store.Goals as goal
 
@@ -31,7 +32,7 @@ returns-in_err-close_all-clause-stops g c =
 
 pub returns-in_err-close_all-clause-cause : goal.returns-in_err-close_all-clause-cause
 returns-in_err-close_all-clause-cause g c =
-    on_err_so c.from_residual.result
+    on_err c.from_residual.result
     (elim c.in_err-close_all.ensures.cause [
       | inl rose ↦ inl rose
       | inr rose ↦ inr (inl (given_back (OneRose g.D.Disk.state) c.args.store.now.graphs c.deref_mut.result.now c.close_all.new.graphs c.deref_mut.ensures.value c.close_all.ensures.closes.many rose))

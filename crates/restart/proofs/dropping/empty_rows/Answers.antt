@@ -1,9 +1,10 @@
 use Rattle.std.proofs.Common.{◌≡◌, ◌<◌, length, get_or, rules, arith}
 use Rattle.std.proofs.lemmas.Grind.{common_steps}
 use Rattle.std.specs.List.{All}
-use Rattle.restart.specs.Devices.{Each, OneRose}
+use Rattle.ports.proofs.Faults.{on_err}
+use Rattle.ports.specs.Devices.{Each, OneRose}
 use Rattle.restart.specs.Dropping.{Empties, IsEmpty}
-use Rattle.restart.proofs.Devices.{next_steps, one_done, given_back, row_rose_here, on_err_so}
+use Rattle.restart.proofs.Devices.{next_steps, one_done, given_back, row_rose_here}
 use Rattle.restart.proofs.dropping.empty_rows.Goals as goal
 
 pub loop-row-preserved : goal.loop-row-preserved
@@ -32,5 +33,5 @@ returns-in_err-empty_all-clause-cause g c =
     let row = get_or c.loop-row.rows c.loop-row.row-index c.row-item.result in
     let lent : c.deref_mut.result.now ≡ row.items = c.deref_mut.ensures.value in
     let within : c.loop-row.row-index < length c.loop-row.rows = first_of (omega arith, search rules, grind (arith, common_steps)) in
-    on_err_so c.from_residual.result (row_rose_here g.D.Disk.state _ _ c.loop-row.row-index c.args.rows.now c.loop-row.rows c.row-item.result _ within c.loop-row.invariant
+    on_err c.from_residual.result (row_rose_here g.D.Disk.state _ _ c.loop-row.row-index c.args.rows.now c.loop-row.rows c.row-item.result _ within c.loop-row.invariant
     (given_back (OneRose g.D.Disk.state) row c.deref_mut.result.now c.empty_all.new.disks lent c.empty_all.ensures.empties.many c.in_err-empty_all.ensures.cause))

@@ -1,5 +1,5 @@
 use Rattle.std.specs.List.{All}
-use Rattle.restart.specs.Devices.{Each}
+use Rattle.ports.specs.Devices.{Each}
 use Rattle.restart.specs.Dropping.{Empties, IsEmpty}
 use Rattle.restart.proofs.Devices.{DoneBelow}
 use Rattle.restart.proofs.dropping.empty_rows.Given as goal

@@ -2,14 +2,14 @@
 use Rattle.std.proofs.Common.{ℕ, refl, subst, arith}
 use Rattle.graph_model.specs.Rounds.{IsWithinGraph}
 use Rattle.round_steps.specs.Going.{AreRows}
-use Rattle.round_steps.proofs.Scattered.{rows_are, rows_go_on, row_rose, scatters_soundly, scatters}
+use Rattle.round_steps.proofs.Scattered.{rows_are, row_rose, scatters_soundly, scatters}
 use Rattle.round_steps.proofs.updates.scatter_edges.Goals as goal
 
 pub scatter_all-requires-clause-lanes : goal.scatter_all-requires-clause-lanes
 scatter_all-requires-clause-lanes g c = λ κs outlives. rows_are g.D.Disk.state c.args.run.now.job.now.engines c.args.beat.now c.args.lanes.now.items (subst (λ (n : ℕ). AreRows g.D.Disk.state n c.args.beat.now c.args.lanes.now.items) (omega arith) c.requires.lanes)
 
 pub returns-clause-lanes : goal.returns-clause-lanes
-returns-clause-lanes g c = rows_go_on g.D.Disk.state c.args.beat.now c.args.lanes.now.items c.scatter_all.new.lanes.items c.scatter_all.ensures.lanes
+returns-clause-lanes g c = c.scatter_all.ensures.lanes
 
 pub returns-clause-cause : goal.returns-clause-cause
 returns-clause-cause g c = λ fault.

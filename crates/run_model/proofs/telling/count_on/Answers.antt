@@ -2,8 +2,8 @@
 use Rattle.std.proofs.Common.{◌≡◌, ◌∙◌, ℕ, ◌+◌, ◌*◌, length, sym, ap, arith}
 use Rattle.std.specs.List.{sum_by, range_with_len}
 use Rattle.chunk_file.specs.Places.{places_of}
+use Rattle.graph_model.proofs.ListLemmas.{sum_by_range-more}
 use Rattle.run_model.specs.Telling.{count_on}
-use Rattle.run_model.proofs.Counted.{sum_next}
 use Rattle.run_model.proofs.telling.count_on.Goals as goal
 
 pub loop-partition-preserved : goal.loop-partition-preserved
@@ -12,7 +12,7 @@ loop-partition-preserved c =
     record {
       so_far = ap (λ n. n + c.len-count.result) c.loop-partition.invariant.so_far
           ∙ ap (λ n. sum_by places (range_with_len 0 c.loop-partition.partition) + n) c.len-count.ensures
-          ∙ sym (sum_next places c.loop-partition.partition);
+          ∙ sym (sum_by_range-more places c.loop-partition.partition);
       few = omega (arith, c.loop-partition.invariant.few, c.len-count.ensures, c.requires.few (64 * c.args.engine + c.loop-partition.partition));
     }
 

@@ -1,6 +1,6 @@
 use Rattle.std.proofs.Common.{arith}
 use Rattle.scatter_phase.specs.Rooms.{IsRoom}
-use Rattle.scatter_epoch.proofs.Moving.{all_more}
+use Rattle.list_moves.proofs.Moving.{all_more}
 use Rattle.scatter_epoch.proofs.crew.new_rooms.Goals as goal
 
 pub loop-preserved : goal.loop-preserved

@@ -1,8 +1,8 @@
 use Rattle.std.proofs.Common.{◌∷◌, map, ap, sym, ◌∙◌, arith}
 use Rattle.worker_outcomes.specs.Lowest.{lowest_outcome}
 use Rattle.worker_outcomes.proofs.Lowest.{lowest_first}
+use Rattle.list_moves.proofs.Moving.{back_more, sum_first, sum_none}
 use Rattle.scatter_epoch.specs.Dealing.{seat_at, meter_at, lanes_at, places_on, room_at, outcome_at, claims_at, admitted_at}
-use Rattle.scatter_epoch.proofs.Moving.{back_more, sum_first, sum_none}
 use Rattle.scatter_epoch.proofs.moves.collect.Goals as goal
 
 pub loop-preserved : goal.loop-preserved

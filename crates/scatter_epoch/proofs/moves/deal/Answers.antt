@@ -1,6 +1,6 @@
 use Rattle.std.proofs.Common.{◌≡◌, [], refl, arith}
+use Rattle.list_moves.proofs.Moving.{dealt_more, numbers_more, all_more}
 use Rattle.scatter_epoch.specs.Dealing.{seat_at, meter_at, lanes_at, places_on, room_at, number_at}
-use Rattle.scatter_epoch.proofs.Moving.{dealt_more, numbers_more, all_more}
 use Rattle.scatter_epoch.proofs.moves.deal.Goals as goal
 
 pub loop-worker-preserved : goal.loop-worker-preserved

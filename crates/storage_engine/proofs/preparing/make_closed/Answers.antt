@@ -2,11 +2,12 @@ use Rattle.std.proofs.Common.{◌≡◌, ◌∙◌, ◌⊎◌, inl, ℕ, [], len
 use Rattle.std.proofs.lemmas.List.{length-replicate}
 use Rattle.graph_model.specs.declared.job.Job.{Job}
 use Rattle.ports.specs.Faults.{Rose}
+use Rattle.ports.specs.Devices.{OneRose}
 use Rattle.store_model.specs.Heads.{IsShutGraph}
 use Rattle.std.proofs.lemmas.List.{append-nil}
 use Rattle.storage_engine.specs.Making.{AreFew, HasRoomFor, IsMaking, IsFlushed}
 use Rattle.storage_engine.specs.Preparing.{HasReadAll, HasPrepareCause}
-use Rattle.storage_engine.specs.Steps.{OneRose, IsClosedFront}
+use Rattle.storage_engine.specs.Steps.{IsClosedFront}
 use Rattle.storage_engine.proofs.Every.{each_then, one_rose_later}
 use Rattle.storage_engine.proofs.Texts.{stopped_by, not_of_text}
 use Rattle.storage_engine.proofs.TwoBeats.{cause_weaker}

@@ -1,9 +1,10 @@
 use Rattle.std.proofs.Common.{Ok, Err, sym, subst, arith}
 use Rattle.ports.specs.Faults.{Rose}
+use Rattle.ports.specs.Devices.{Each}
 use Rattle.store_model.proofs.Growing.{length-graph}
 use Rattle.store_model.specs.Graphs.{edge_chunks}
 use Rattle.storage_engine.specs.Preparing.{Prepares}
-use Rattle.storage_engine.specs.Steps.{Each, Opens}
+use Rattle.storage_engine.specs.Steps.{Opens}
 use Rattle.storage_engine.specs.declared.fault.PrepareFault.TheVariants.{DiskFault}
 use Rattle.storage_engine.proofs.Ends.{prepared_first, prepared_second, prepared_opening_failed}
 use Rattle.storage_engine.proofs.preparing.prepare_devices.Goals as goal

@@ -2,7 +2,8 @@ use Rattle.std.proofs.Common.{◌∙◌, refl, arith}
 use Rattle.graph_model.specs.Programs.{takes_both_directions}
 use Rattle.graph_model.specs.EdgeText.{text_limit}
 use Rattle.ports.specs.Faults.{Rose}
-use Rattle.storage_engine.specs.Steps.{OneRose, IsClosedFront}
+use Rattle.ports.specs.Devices.{OneRose}
+use Rattle.storage_engine.specs.Steps.{IsClosedFront}
 use Rattle.storage_engine.proofs.Every.{each_same, each_then, one_rose_later}
 use Rattle.storage_engine.proofs.Texts.{so_far, taken_none, taken_more, taken_all, piece_refused, end_refused, stopped_by, given_further, sources_given, room_for_piece, room_for_end}
 use Rattle.storage_engine.proofs.text.make_chunks.Goals as goal

@@ -1,6 +1,7 @@
 use Rattle.std.proofs.Common.{◌≡◌, ◌+◌, ◌-◌, ◌≤◌}
 use Rattle.graph_model.specs.EdgeText.{text_limit}
-use Rattle.storage_engine.specs.Steps.{Step, Each, IsClosedFront}
+use Rattle.ports.specs.Devices.{Each}
+use Rattle.storage_engine.specs.Steps.{Step, IsClosedFront}
 use Rattle.storage_engine.proofs.Texts.{HasTaken}
 use Rattle.storage_engine.proofs.text.make_chunks.Given as goal
 

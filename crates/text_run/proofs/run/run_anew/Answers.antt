@@ -1,7 +1,7 @@
 -- There was no memory, the store was not made, or it was, and the job was run.
 use Rattle.std.proofs.Common.{◌∙◌, ◌<◌, ◌≤◌, List, length, slice_set, sym, ap, subst, arith}
 use Rattle.ports.specs.Faults.{Rose}
-use Rattle.round_steps.specs.Going.{MetersGoOn}
+use Rattle.ports.specs.Devices.{MetersGoOn}
 use Rattle.round_steps.proofs.Kept.{meters_then}
 use Rattle.round_loop.specs.Keeping.{moment}
 use Rattle.run_model.specs.Calls.{Call}

@@ -3,8 +3,8 @@ use Rattle.std.proofs.Common.{◌≡◌, length, sym, ap, subst, arith}
 use Rattle.std.specs.Prelude.{IfErr}
 use Rattle.std.specs.Vec.{with_items}
 use Rattle.std.proofs.lemmas.List.{with_items_is}
+use Rattle.ports.specs.Devices.{OneRose}
 use Rattle.update_lanes.specs.declared.lanes.LaneFault.TheVariants.{DiskFault}
-use Rattle.update_lanes.specs.Lanes.{OneRose}
 use Rattle.update_lanes.proofs.outgoing.flush_lanes.Goals as goal
 
 pub returns-clause-cause : goal.returns-clause-cause

@@ -2,8 +2,8 @@
 use Rattle.std.proofs.Common.{◌≡◌, ◌*◌, ◌<◌, ◌≤◌, arith, refl, sym, ◌∙◌, ap, subst}
 use Rattle.std.specs.Int.{div_ceil}
 use Rattle.graph_model.specs.Partitions.{IsPartCount, part_count}
-use Rattle.graph_model.proofs.SplitLemmas.{part_count_is, ceil_div-div_ceil}
-use Rattle.partitioner.proofs.Made.{part_count-unique, part_count-computed, one-le-product, made-is_split}
+use Rattle.graph_model.proofs.SplitLemmas.{part_count_is, ceil_div-div_ceil, one-le-product}
+use Rattle.partitioner.proofs.Made.{part_count-unique, part_count-computed, made-is_split}
 use Rattle.partitioner.proofs.split.Split.of.Goals as goal
 
 -- src/split.rt:37:13

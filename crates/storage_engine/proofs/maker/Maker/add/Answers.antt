@@ -1,8 +1,9 @@
-use Rattle.std.proofs.Common.{◌≡◌, ◌∙◌, ◌/◌, ◌<◌, ◌∷◌, [], ◌++◌, length, ap, sym, subst, arith, Result, Ok, Err, OnOk}
+use Rattle.std.proofs.Common.{◌≡◌, ◌∙◌, ◌/◌, ◌<◌, ◌∷◌, [], ◌++◌, length, ap, sym, subst, arith}
 use Rattle.std.proofs.lemmas.List.{length-set}
 use Rattle.graph_model.specs.Jobs.{parts_of}
 use Rattle.store_model.specs.Graphs.{home_of}
 use Rattle.chunk_model.specs.Chunks.{full_chunks}
+use Rattle.ports.proofs.Told.{on_ok_two}
 use Rattle.storage_engine.specs.Waiting.{waiting}
 use Rattle.storage_engine.proofs.Adding.{home_is, home_below, kept_at, fills_at, held_at}
 use Rattle.storage_engine.proofs.Few.{room_while_given}
@@ -38,16 +39,11 @@ write-requires-clause-held g c = λ _ _.
     let p_below : p < parts_of job = subst (λ k. k < parts_of job) (sym home) (home_below job c.args.edge c.requires.job c.requires.source) in
     held_at job c.requires.making.0 c.args.self.now.buffers c.add.new.self p c.args.edge (omega (arith, p_below, c.requires.making.1.holds.many)) (c.requires.making.1.held p p_below) c.requires.held c.in_ok-add.ensures.ok
 
--- where the chunk was written
-written : {T E P Q R : Type 0} (r : Result T E) → (P → Q → R) → OnOk r P → OnOk r Q → OnOk r R
-written (Ok x) f p q = f p q
-written (Err e) f p q = tt
-
 pub returns-clause-making : goal.returns-clause-making
 returns-clause-making g c = λ edges making.
     let job = c.args.self.now.job in
     let p = c.args.edge.src / c.args.self.now.span in
-    written c.write.result
+    on_ok_two c.write.result
     (λ made emptied. fills_at g.D.Disk.state job edges c.args.edge p c.args.self.now.buffers c.add.new.self c.write.new.self.buffers c.args.self.now.placer c.write.new.self.placer c.args.self.now.index c.write.new.self.index c.args.graphs.now c.write.new.graphs
     (home_is job c.args.edge c.args.self.now.span c.args.self.now.span_is) c.requires.job c.requires.source making c.in_ok-add.ensures.ok emptied
     (omega (arith, c.if-edges-self.false, ap length c.edges.ensures)) made)

@@ -4,10 +4,11 @@ use Rattle.graph_model.specs.declared.edge.Edge.{Edge}
 use Rattle.std.proofs.lemmas.List.{length-append, length-take}
 use Rattle.graph_model.specs.declared.job.Job.{Job}
 use Rattle.ports.specs.Disk.{DiskState}
+use Rattle.ports.specs.Devices.{OneRose}
 use Rattle.chunk_file.specs.declared.index.Place.{Place}
 use Rattle.seeded_place.specs.Placing.{Placing}
 use Rattle.storage_engine.specs.Making.{AreFew, HasRoomFor, IsMaking}
-use Rattle.storage_engine.specs.Steps.{OneRose, IsClosedFront}
+use Rattle.storage_engine.specs.Steps.{IsClosedFront}
 use Rattle.storage_engine.proofs.Every.{each_then, one_rose_later}
 use Rattle.storage_engine.proofs.Flushing.{rose_cause, making_further}
 use Rattle.storage_engine.proofs.maker.Maker.add_all.Goals as goal

@@ -1,7 +1,8 @@
 use Rattle.std.proofs.Common.{◌≡◌, List, ◌++◌, take}
 use Rattle.graph_model.specs.declared.edge.Edge.{Edge}
+use Rattle.ports.specs.Devices.{Each}
 use Rattle.storage_engine.specs.Making.{IsMaking}
-use Rattle.storage_engine.specs.Steps.{Step, Each, IsClosedFront}
+use Rattle.storage_engine.specs.Steps.{Step, IsClosedFront}
 use Rattle.storage_engine.proofs.maker.Maker.add_all.Given as goal
 
 abbrev pub invariant-loop-k : goal.invariant-loop-k

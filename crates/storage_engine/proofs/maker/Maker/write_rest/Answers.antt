@@ -5,8 +5,9 @@ use Rattle.graph_model.specs.Jobs.{parts_of}
 use Rattle.chunk_model.specs.Chunks.{full_chunks}
 use Rattle.store_model.specs.Graphs.{home_of}
 use Rattle.std.proofs.lemmas.List.{append-nil}
+use Rattle.ports.specs.Devices.{OneRose}
 use Rattle.storage_engine.specs.Making.{AreFew, HasMade, chunk_with}
-use Rattle.storage_engine.specs.Steps.{OneRose, IsClosedFront}
+use Rattle.storage_engine.specs.Steps.{IsClosedFront}
 use Rattle.storage_engine.specs.Waiting.{waiting}
 use Rattle.storage_engine.proofs.Every.{each_then, one_rose_later}
 use Rattle.storage_engine.proofs.Flushing.{rests_below, rose_cause, rest_skipped, rest_written, rest_ends}

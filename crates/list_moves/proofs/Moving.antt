@@ -5,7 +5,7 @@ use Rattle.std.specs.Vec.{with_items}
 use Rattle.std.proofs.lemmas.List.{map-append, with_items_is}
 use Rattle.std.proofs.lemmas.List.Elements.{All-push}
 use Rattle.std.proofs.lemmas.List.Sums.{sum_by-cons}
-use Rattle.partitioner.proofs.Ranges.{range_with_len-more}
+use Rattle.graph_model.proofs.ListLemmas.{range_with_len-more}
 
 module _ {X Y : Type 0} (f : X → Y) where
   -- an item more is at a desk
