@@ -1,14 +1,13 @@
 -- A list that meets the duty comes in its turn.
 use Rattle.std.proofs.Common.{◌≡◌, ◌⊎◌, inl, inr, ℕ, ◌+◌, ◌/◌, ◌%◌, ◌<◌, ◌≤◌, ◌==◌, ◌||◌, Bool, true, false, List, [], ◌∷◌, ◌++◌, length, filter, refl, sym, ◌∙◌, ap, subst, arith, eq-eqb}
 use Rattle.std.specs.List.{All}
-use Rattle.std.proofs.lemmas.Bool.{eqb-true, eqb-false}
+use Rattle.std.proofs.lemmas.Bool.{eqb-true, eqb-false, ne_eqb}
 use Rattle.std.proofs.lemmas.List.Elements.{All-head, All-tail, All-append, All-weaker, filter_passes}
 use Rattle.chunk_object.specs.declared.call.Call.{Call}
 use Rattle.chunk_object.specs.declared.call.Call.TheVariants.{Took, Exhausted, Heads, Admitted, Contended}
 use Rattle.chunk_object.specs.Epochs.{Terms, cursor_of}
 use Rattle.chunk_object.specs.Duty.{partition_of, is_on, claims_at, IsClaim, EndsExhausted, ClaimsToTheEnd, looks_from, FollowsHeads, Helps, IsMaster, IsDutiful}
 use Rattle.chunk_object.proofs.Dutiful.{cursor_parts}
-use Rattle.graph_model.proofs.BoolLemmas.{unequal}
 use Rattle.epoch_laws.specs.Turns.{Rights, no_rights, rights_after, works, InTurn}
 use Rattle.epoch_laws.proofs.Events.{whole, put_case}
 
@@ -106,7 +105,7 @@ module _ (terms : Terms) (few : terms.partitions ≤ 64) (worker p : ℕ) (insid
   follows_turn unread heads (Admitted asked count ∷ calls) bounds stranger on follows = (
     record {
       theirs = subst (λ k. k < terms.partitions) (sym follows.1) inside;
-      stranger = or_none (asked % terms.engines == worker) ∙ unequal (asked % terms.engines) worker (λ equal. stranger (ap (λ k. k % terms.engines) (sym follows.1) ∙ equal));
+      stranger = or_none (asked % terms.engines == worker) ∙ ne_eqb (asked % terms.engines) worker (λ equal. stranger (ap (λ k. k % terms.engines) (sym follows.1) ∙ equal));
       low = omega (arith, follows.2, bounds.0);
       high = omega (arith, follows.2, bounds.1);
     },
@@ -115,7 +114,7 @@ module _ (terms : Terms) (few : terms.partitions ≤ 64) (worker p : ℕ) (insid
   follows_turn unread heads (Contended asked count found ∷ []) bounds stranger on follows = (
     record {
       theirs = subst (λ k. k < terms.partitions) (sym follows.1) inside;
-      stranger = or_none (asked % terms.engines == worker) ∙ unequal (asked % terms.engines) worker (λ equal. stranger (ap (λ k. k % terms.engines) (sym follows.1) ∙ equal));
+      stranger = or_none (asked % terms.engines == worker) ∙ ne_eqb (asked % terms.engines) worker (λ equal. stranger (ap (λ k. k % terms.engines) (sym follows.1) ∙ equal));
       low = omega (arith, follows.2, bounds.0);
       high = omega (arith, follows.2, bounds.1);
     },

@@ -2,11 +2,10 @@
 use Rattle.std.proofs.Common.{◌≡◌, ◌≢◌, ℕ, suc, ◌-◌, ◌/◌, ◌%◌, ◌<◌, ◌≤◌, ◌==◌, ◌&&◌, ◌||◌, not, nat_lt, nat_le, if◌then◌else◌, Bool, true, false, List, [], ◌∷◌, ◌++◌, map, filter, refl, sym, ◌∙◌, ap, subst, arith, eq-eqb}
 use Rattle.std.proofs.Math.Nat.{div-add-mod}
 use Rattle.std.proofs.Math.Path.{fun_ext}
-use Rattle.std.proofs.lemmas.Bool.{and_from, cond-true, cond-false, eqb-true, eqb-false, lt-ltb}
+use Rattle.std.proofs.lemmas.Bool.{and_from, cond-true, cond-false, eqb-true, eqb-false, lt-ltb, ne_eqb}
 use Rattle.std.specs.List.{All}
 use Rattle.std.proofs.lemmas.List.Elements.{All-head, All-tail}
 use Rattle.graph_model.specs.Programs.{Rules}
-use Rattle.graph_model.proofs.BoolLemmas.{unequal}
 use Rattle.chunk_object.specs.declared.call.Call.{Call}
 use Rattle.chunk_object.specs.declared.call.Call.TheVariants as call
 use Rattle.chunk_object.specs.declared.call.Entry.{Entry}
@@ -101,7 +100,7 @@ module _ (terms : Terms) (m : Machine) (o : ChunkObject) (r : ℕ → ℕ → Ri
   same_reply (call.Contended partition heads found) may is =
       timely m (Admit worker partition heads) (admit_timely partition heads may)
       ∙ cond-false (m.object.heads partition == heads) Admitted (Contended (m.object.heads partition))
-      (unequal (m.object.heads partition) heads (λ equal. is.1 (is.0 ∙ sym (ties.heads partition may.theirs) ∙ equal)))
+      (ne_eqb (m.object.heads partition) heads (λ equal. is.1 (is.0 ∙ sym (ties.heads partition may.theirs) ∙ equal)))
       ∙ ap Contended (ties.heads partition may.theirs ∙ sym is.0)
   same_reply (call.Open cursor len) may is = absurd may
   same_reply (call.Greet partition) may is = absurd may
@@ -239,13 +238,13 @@ pub calls_own : (e : Entry) (h : List Entry) (worker : ℕ) → e.worker ≡ wor
 calls_own e h worker own = rw (eq-eqb e.worker worker own) refl
 
 pub calls_other : (e : Entry) (h : List Entry) (worker : ℕ) → e.worker ≢ worker → calls_of_worker worker (e ∷ h) ≡ calls_of_worker worker h
-calls_other e h worker other = rw (unequal e.worker worker other) refl
+calls_other e h worker other = rw (ne_eqb e.worker worker other) refl
 
 on_own : (c : Call) (calls : List Call) (partition : ℕ) → partition_of c ≡ partition → filter (is_on partition) (c ∷ calls) ≡ c ∷ filter (is_on partition) calls
 on_own c calls partition at = rw (eq-eqb (partition_of c) partition at) refl
 
 on_other : (c : Call) (calls : List Call) (partition : ℕ) → partition_of c ≢ partition → filter (is_on partition) (c ∷ calls) ≡ filter (is_on partition) calls
-on_other c calls partition apart = rw (unequal (partition_of c) partition apart) refl
+on_other c calls partition apart = rw (ne_eqb (partition_of c) partition apart) refl
 
 module _ (rules : Rules) (terms : Terms) where
   -- each worker's calls on each partition come in their turn

@@ -1,7 +1,7 @@
 -- The merge over a list is that over its parts by a key, and over the chunks that are made of it.
 use Rattle.std.proofs.Common.{◌≡◌, ℕ, zero, suc, ◌+◌, ◌<◌, ◌≤◌, ◌==◌, nat_lt, if◌then◌else◌, Bool, true, false, List, [], ◌∷◌, ◌++◌, length, get_or, map, filter, flat_map, refl, sym, ◌∙◌, ap, subst, arith, eq-eqb}
 use Rattle.std.specs.List.{All, fold, range_with_len}
-use Rattle.std.proofs.lemmas.Bool.{eqb-true, eqb-false, cond-true, lt-ltb}
+use Rattle.std.proofs.lemmas.Bool.{eqb-true, eqb-false, cond-true, lt-ltb, ne_eqb}
 use Rattle.std.proofs.lemmas.List.Elements.{All-head, All-tail, All-append, All-nil, All-filter}
 use Rattle.std.proofs.lemmas.Grind.{flat_map-append}
 use Rattle.gather_laws.specs.Laws.{MergeLaws}
@@ -9,7 +9,6 @@ use Rattle.gather_laws.proofs.MergeLemmas.{merged-append, merged_is_sum}
 use Rattle.chunk_model.specs.Chunks.{Chunk, chunks, chunks_of_partition, IsChunkOf}
 use Rattle.chunk_model.proofs.Made.{chunks_hold, chunks_are}
 use Rattle.phase_core.proofs.Merging.{merged_raised, merged_units}
-use Rattle.graph_model.proofs.BoolLemmas.{unequal}
 
 -- two functions that agree on a row of numbers
 same_row : {X : Type 0} (f g : ℕ → X) (a n : ℕ) → ((k : ℕ) → k < a + n → f k ≡ g k) → map f (range_with_len a n) ≡ map g (range_with_len a n)
@@ -62,7 +61,7 @@ module _ (unit : ℕ) (merge : ℕ → ℕ → ℕ) (IsSum : ℕ → Type 0) (la
           ∙ merged-append unit merge IsSum laws (h y) (flat_map h (filter (λ y. key y == p) ys)) first (key_sums rest p)
           ∙ laws.commutes (merged (h y)) (of_key key h ys p) (merged_is_sum unit merge IsSum laws (h y) first) (sums_of_key rest p)
       raised first rest p false is =
-          let test : key y == p ≡ false = unequal (key y) p (λ equal. eqb-false p (key y) is (sym equal)) in
+          let test : key y == p ≡ false = ne_eqb (key y) p (λ equal. eqb-false p (key y) is (sym equal)) in
           let kept : filter (λ y. key y == p) (y ∷ ys) ≡ filter (λ y. key y == p) ys = rw test refl in
           ap (λ l. merged (flat_map h l)) kept
 

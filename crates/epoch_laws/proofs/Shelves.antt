@@ -1,7 +1,7 @@
 -- Shelves: chunks that were placed, and what an epoch took of them.
 use Rattle.std.proofs.Common.{◌≡◌, ◌≢◌, ℕ, ◌+◌, ◌/◌, ◌%◌, ◌<◌, ◌≤◌, ◌&&◌, nat_lt, if◌then◌else◌, Bool, true, false, List, [], ◌∷◌, ◌++◌, get_or, map, flat_map, refl, sym, ◌∙◌, ap, subst, arith}
 use Rattle.std.specs.List.{All, count_by, fold, enumerate_from}
-use Rattle.std.proofs.lemmas.Bool.{and_from, lt-ltb}
+use Rattle.std.proofs.lemmas.Bool.{and_from, lt-ltb, ne_eqb}
 use Rattle.std.proofs.lemmas.List.Elements.{All-head, All-tail, All-cons, All-nil, All-map}
 use Rattle.std.proofs.lemmas.List.Folds.{flat_map-map}
 use Rattle.std.proofs.lemmas.Grind.{flat_map-append}
@@ -19,7 +19,6 @@ use Rattle.phase_model.specs.Taken.{taken, records_taken}
 use Rattle.phase_model.proofs.Lists.{records_taken-append}
 use Rattle.phase_core.proofs.Shelved.{is_chunk, cursor_at, lens_other, records_all, all_taken, IsMerged, shelf_merged}
 use Rattle.phase_core.proofs.Drained.{count_taken}
-use Rattle.graph_model.proofs.BoolLemmas.{unequal}
 use Rattle.epoch_laws.specs.Phases.{Opens}
 use Rattle.epoch_laws.proofs.Grouped.{flat_map-flat_map, flat_all}
 
@@ -65,7 +64,7 @@ none_outside engines parts (c ∷ made) few all cursor out =
     let second : nat_lt (cursor % 64) parts ≡ true = lt-ltb (cursor % 64) parts (omega (arith, partition, here.1)) in
     let inside : (nat_lt (cursor / 64) engines && nat_lt (cursor % 64) parts) ≡ true = and_from (nat_lt (cursor / 64) engines) (nat_lt (cursor % 64) parts) first second in
     grind (arith, inside, out) in
-    lens_other c made cursor (unequal (cursor_at c) cursor apart) ∙ none_outside engines parts made few (All-tail (StandsBelow engines parts) c made all) cursor out
+    lens_other c made cursor (ne_eqb (cursor_at c) cursor apart) ∙ none_outside engines parts made few (All-tail (StandsBelow engines parts) c made all) cursor out
 
 -- what all workers took, list by list
 pub over_lists : {X : Type 0} (h : X → List ℕ) (records : ℕ → ℕ → List X) (lists : List (List Call)) →

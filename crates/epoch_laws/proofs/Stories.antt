@@ -1,7 +1,7 @@
 -- The calls of an epoch's workers stand in one legal history.
 use Rattle.std.proofs.Common.{◌≡◌, ◌≢◌, ◌⊎◌, inl, inr, ℕ, zero, suc, ◌+◌, ◌/◌, ◌%◌, ◌<◌, ◌≤◌, ◌==◌, ◌&&◌, ◌||◌, not, if◌then◌else◌, Bool, true, false, List, [], ◌∷◌, ◌++◌, length, get_or, map, filter, flat_map, refl, sym, ◌∙◌, ap, subst, zero-add, append-nil, arith, eq-eqb}
 use Rattle.std.specs.List.{All, range_with_len}
-use Rattle.std.proofs.lemmas.Bool.{eqb-true, eqb-false}
+use Rattle.std.proofs.lemmas.Bool.{eqb-true, eqb-false, or_parts, ne_eqb}
 use Rattle.std.proofs.lemmas.List.{map-append, get_or_default}
 use Rattle.std.proofs.lemmas.List.Elements.{All-nil, All-cons, All-head, All-tail, All-append, All-weaker, All-filter, filter-append, filter_passes}
 use Rattle.chunk_object.specs.declared.call.Call.{Call}
@@ -13,7 +13,7 @@ use Rattle.chunk_object.specs.Epochs.{cursor_of, Terms, Epoch, list_of, entry_of
 use Rattle.chunk_object.specs.Duty.{partition_of, MeetsDuty}
 use Rattle.chunk_object.proofs.Histories.{final-append}
 use Rattle.chunk_object.proofs.Moves.{greets_sets, opens_sets}
-use Rattle.graph_model.proofs.BoolLemmas.{neither, true_is_not, unequal}
+use Rattle.graph_model.proofs.BoolLemmas.{true_is_not}
 use Rattle.epoch_laws.specs.Turns.{IsTheirs, IsOpened, EpochHistory, calls_of_worker}
 use Rattle.epoch_laws.proofs.Duties.{dutiful_parts}
 use Rattle.epoch_laws.proofs.Events.{whole, put_case, calls_own, calls_other}
@@ -189,9 +189,9 @@ next_of_marks c [] o m start done = start done
 next_of_marks c (e ∷ l) o m start done = next_of_marks c l (after o e.call) (mark (opens c) (takes_any c) (opens_sets c) m e) (step e.call) done
   where
     step : (k : Call) → (if opens c k then false else takes_any c k || m) ≡ false → (after o k).next c ≡ 0
-    step (Open cursor len) is = put_case (λ n. n ≡ 0) cursor 0 o.next c (λ here. refl) (λ apart. start (sym (ap (λ b. if b then false else m) (unequal cursor c (λ equal. apart (sym equal)))) ∙ is))
+    step (Open cursor len) is = put_case (λ n. n ≡ 0) cursor 0 o.next c (λ here. refl) (λ apart. start (sym (ap (λ b. if b then false else m) (ne_eqb cursor c (λ equal. apart (sym equal)))) ∙ is))
     step (Took cursor chunk) is =
-        let parts = neither (cursor == c) m is in
+        let parts = or_parts (cursor == c) m is in
         put_case (λ n. n ≡ 0) cursor (suc chunk) o.next c (λ here. absurd (true_is_not (cursor == c) (eq-eqb cursor c (sym here)) parts.0)) (λ apart. start parts.1)
     step (Greet partition) is = start is
     step (Exhausted cursor) is = start is
@@ -207,9 +207,9 @@ heads_of_marks p [] o m start done = start done
 heads_of_marks p (e ∷ l) o m start done = heads_of_marks p l (after o e.call) (mark (greets p) (admits p) (greets_sets p) m e) (step e.call) done
   where
     step : (k : Call) → (if greets p k then false else admits p k || m) ≡ false → (after o k).heads p ≡ 1
-    step (Greet partition) is = put_case (λ n. n ≡ 1) partition 1 o.heads p (λ here. refl) (λ apart. start (sym (ap (λ b. if b then false else m) (unequal partition p (λ equal. apart (sym equal)))) ∙ is))
+    step (Greet partition) is = put_case (λ n. n ≡ 1) partition 1 o.heads p (λ here. refl) (λ apart. start (sym (ap (λ b. if b then false else m) (ne_eqb partition p (λ equal. apart (sym equal)))) ∙ is))
     step (Admitted partition heads) is =
-        let parts = neither (partition == p) m is in
+        let parts = or_parts (partition == p) m is in
         put_case (λ n. n ≡ 1) partition (suc heads) o.heads p (λ here. absurd (true_is_not (partition == p) (eq-eqb partition p (sym here)) parts.0)) (λ apart. start parts.1)
     step (Open cursor len) is = start is
     step (Took cursor chunk) is = start is
@@ -230,7 +230,7 @@ len_of_run c (e ∷ l) o = len_of_run c l (after o e.call) ∙ ap (λ n. final (
     step : (k : Call) → (after o k).len c ≡ len_after c (o.len c) k
     step (Open cursor len) =
         put_case (λ n. n ≡ (if cursor == c then len else o.len c)) cursor len o.len c
-        (λ here. sym (ap (λ b. if b then len else o.len c) (eq-eqb cursor c (sym here)))) (λ apart. sym (ap (λ b. if b then len else o.len c) (unequal cursor c (λ equal. apart (sym equal)))))
+        (λ here. sym (ap (λ b. if b then len else o.len c) (eq-eqb cursor c (sym here)))) (λ apart. sym (ap (λ b. if b then len else o.len c) (ne_eqb cursor c (λ equal. apart (sym equal)))))
     step (Greet partition) = refl
     step (Took cursor chunk) = refl
     step (Exhausted cursor) = refl
@@ -260,7 +260,7 @@ len_kept c w (e ∷ l) n = by_test (bears_on w e) refl (λ k. len_kept c w l k)
 
     by_test : (kept : Bool) → bears_on w e ≡ kept → ((k : ℕ) → final (len_step c) k (filter (bears_on w) l) ≡ final (len_step c) k l) → final (len_step c) n (if kept then e ∷ filter (bears_on w) l else filter (bears_on w) l) ≡ final (len_step c) n (e ∷ l)
     by_test true is rest = rest (len_step c n e)
-    by_test false is rest = rest n ∙ ap (λ k. final (len_step c) k l) (sym (no_open e.call (neither (sets e) (e.worker == w) is).0))
+    by_test false is rest = rest n ∙ ap (λ k. final (len_step c) k l) (sym (no_open e.call (or_parts (sets e) (e.worker == w) is).0))
 
 -- rows of calls of the first caller
 row_all : (P : Entry → Type 0) (f : ℕ → Call) → ((k : ℕ) → P (entry_of 0 8 (f k))) → (a n : ℕ) → All P (first_entries (map f (range_with_len a n)))

@@ -7,7 +7,7 @@ use Rattle.std.proofs.lemmas.List.FromFn.{get_or-range_with_len}
 use Rattle.graph_model.specs.Programs.{Rules}
 use Rattle.ports.specs.Disk.{DiskState}
 use Rattle.ports.specs.Faults.{Rose}
-use Rattle.ports.proofs.Faults.{count_rose_before}
+use Rattle.ports.proofs.Rising.{count_rose_before}
 use Rattle.chunk_object.specs.History.{most_chunks}
 use Rattle.chunk_object.specs.Epochs.{Terms, list_of}
 use Rattle.chunk_object.specs.Duty.{IsDutiful, BeginsDutiful}

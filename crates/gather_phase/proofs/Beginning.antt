@@ -7,7 +7,7 @@ use Rattle.worker_duty.proofs.Beginnings.{nothing_taken}
 use Rattle.replica_merge.specs.declared.replicas.Replicas.{Replicas}
 use Rattle.ports.specs.Disk.{DiskState}
 use Rattle.ports.specs.Faults.{Rose}
-use Rattle.ports.proofs.Faults.{count_rose_before}
+use Rattle.ports.proofs.Rising.{count_rose_before}
 use Rattle.gather_phase.specs.declared.desk.GatherDesk.{GatherDesk}
 use Rattle.gather_phase.specs.Phases.{GoesOn}
 use Rattle.gather_phase.specs.Gathering.{Adding, Rests}

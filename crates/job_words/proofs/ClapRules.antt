@@ -2,6 +2,7 @@
 use Rattle.std.proofs.Common.{◌≡◌, ◌∙◌, ◌+◌, ◌&&◌, ◌||◌, Bool, true, false, not, cond, min, ℕ, List, [], ◌∷◌, ◌++◌, Option, Some, None, is_some, map, refl, sym, ap, find}
 use Rattle.std.specs.List.{list_all, list_any}
 use Rattle.std.specs.Str.{bytes_eq}
+use Rattle.std.proofs.lemmas.Bool.{false_from_ne_true, not-true, not_from_false, and_parts, and_from}
 use Rattle.clap.specs.Lexer.{usize_max}
 use Rattle.clap.specs.Walk.{Rule, arg_by_id, arg_by_index, arg_by_long, arg_by_short, has_long}
 use Rattle.clap.specs.Simple.{Shape, built, is_simple, new_rule}
@@ -10,7 +11,7 @@ use Rattle.clap.specs.declared.builder.action.ArgAction.TheVariants.{Append, Set
 use Rattle.clap.specs.declared.builder.range.ValueRange.{ValueRange}
 use Rattle.clap.specs.declared.builder.value_parser.ValueParser.TheVariants as vp
 use Rattle.clap.proofs.OnLiterals.{clap_on_literals}
-use Rattle.graph_model.proofs.BoolLemmas.{not_true, true_is_not, false_of, not_of, both, and_true, or_false}
+use Rattle.graph_model.proofs.BoolLemmas.{true_is_not, or_false}
 use Rattle.job_words.specs.Tables.{Text, PositionRow, OptionRow, FlagRow, positions, options, flags}
 use Rattle.job_words.specs.Reading.{is_flag, is_option}
 use Rattle.job_words.specs.Reader.{reader}
@@ -63,7 +64,7 @@ pub named_apart : (p : Text → Bool) (name : Text) → p name ≡ true → (pla
 named_apart p name among [] apart rules place fits = refl
 named_apart p name among (row ∷ later) apart rules place fits =
     let other : bytes_eq name row.name ≡ false = differs p name row.name among (apart row later place rules fits.0) in
-    and_true _ _ (not_of _ other) (named_apart p name among later apart rules (place + 1) fits.1)
+    and_from _ _ (not_from_false _ other) (named_apart p name among later apart rules (place + 1) fits.1)
 
 -- ---- the command of the tables finds them
 
@@ -95,7 +96,7 @@ position_rules place (row ∷ rows) = ready_position place row.name ∷ position
 rules_are : top.rules ≡ position_rules 1 positions ++ (option_rules options ++ flag_rules flags)
 rules_are = refl
 
--- one more option, whose test is the same in both lists
+-- one more option, whose test is the same in and_parts lists
 option_step : (name own : Text) (is : Bool) → bytes_eq own name ≡ is → (among : Bool) (found more : Option Rule)
     → found ≡ cond among (Some (ready_option name)) more
     → cond is (Some (ready_option own)) found ≡ cond (is || among) (Some (ready_option name)) more
@@ -134,9 +135,9 @@ no_position : (name : Text) → is_option name ≡ true → (rows : List Positio
     → (place : ℕ) (more : List Rule) → find (by_same_id name) (position_rules place rows ++ more) ≡ find (by_same_id name) more
 no_position name among [] apart place more = refl
 no_position name among (row ∷ rows) apart place more =
-    let parts = both _ _ apart in
+    let parts = and_parts _ _ apart in
     let other : bytes_eq row.name name ≡ false =
-    not_true (bytes_eq row.name name) (λ same. true_is_not (is_option name) among (sym (ap is_option (same_of row.name name same)) ∙ false_of _ parts.0)) in
+    false_from_ne_true (bytes_eq row.name name) (λ same. true_is_not (is_option name) among (sym (ap is_option (same_of row.name name same)) ∙ not-true _ parts.0)) in
     rw other (no_position name among rows parts.1 (place + 1) more)
 
 found_by_id : (name : Text) → is_option name ≡ true → arg_by_id top.rules name ≡ Some (ready_option name)

@@ -4,10 +4,11 @@ use Rattle.std.specs.List.{list_all}
 use Rattle.std.specs.Str.{bytes_eq}
 use Rattle.std.proofs.lemmas.List.{map-append}
 use Rattle.std.proofs.lemmas.List.Elements.{filter-append}
+use Rattle.std.proofs.lemmas.Bool.{false_from_ne_true, not-true, and_parts, and_from, or_parts}
 use Rattle.clap.specs.Walk.{Row, all_of, has_row, with_values, without}
 use Rattle.clap.specs.declared.builder.value_parser.Reading.{Reading}
 use Rattle.clap.specs.declared.parser.matches.ValueSource.{ValueSource}
-use Rattle.graph_model.proofs.BoolLemmas.{not_true, true_is_not, false_of, both, and_true, neither}
+use Rattle.graph_model.proofs.BoolLemmas.{true_is_not}
 use Rattle.job_words.specs.Tables.{Text, PositionRow}
 use Rattle.job_words.specs.Reading.{Given, texts_of, with_given}
 use Rattle.job_words.proofs.BoolLemmas.{same_of}
@@ -25,7 +26,7 @@ same_text what id r same hit = ap (λ w. bytes_eq w id) (sym (same_of r.id what 
 
 own_text : (what id : Text) (r : Row) → bytes_eq r.id what ≡ false → bytes_eq r.id id ≡ true → bytes_eq what id ≡ false
 own_text what id r other hit =
-    not_true (bytes_eq what id) (λ same. true_is_not (bytes_eq r.id what) (ap (bytes_eq r.id) (same_of what id same) ∙ hit) other)
+    false_from_ne_true (bytes_eq what id) (λ same. true_is_not (bytes_eq r.id what) (ap (bytes_eq r.id) (same_of what id same) ∙ hit) other)
 
 module _ (what : Text) (how : Reading) (source : ValueSource) (values : List Text) where
   abbrev used_rows : List Row → List Row
@@ -64,10 +65,10 @@ module _ (what : Text) (how : Reading) (source : ValueSource) (values : List Tex
       → list_all (λ (row : PositionRow). not (has_row row.name (used_rows rows))) places ≡ true
   free_more [] rows free others = refl
   free_more (row ∷ places) rows free others =
-      let here = both _ _ free in
-      let other = both _ _ others in
-      let same : has_row row.name (used_rows rows) ≡ has_row row.name rows = has_row_more row.name rows (false_of _ other.0) in
-      and_true _ _ (ap not same ∙ here.0) (free_more places rows here.1 other.1)
+      let here = and_parts _ _ free in
+      let other = and_parts _ _ others in
+      let same : has_row row.name (used_rows rows) ≡ has_row row.name rows = has_row_more row.name rows (not-true _ other.0) in
+      and_from _ _ (ap not same ∙ here.0) (free_more places rows here.1 other.1)
 
 -- ---- a name without a row
 
@@ -76,7 +77,7 @@ without_step id r rs other rest = rw other (ap (λ xs. r ∷ xs) rest)
 
 pub without_none : (id : Text) (rows : List Row) → has_row id rows ≡ false → without id rows ≡ rows
 without_none id [] none = refl
-without_none id (r ∷ rs) none = let parts = neither _ _ none in without_step id r rs parts.0 (without_none id rs parts.1)
+without_none id (r ∷ rs) none = let parts = or_parts _ _ none in without_step id r rs parts.0 (without_none id rs parts.1)
 
 -- ---- the rows and what was given
 

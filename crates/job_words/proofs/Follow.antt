@@ -4,6 +4,7 @@ use Rattle.std.specs.List.{list_all, list_any}
 use Rattle.std.specs.Str.{IsUtf8, bytes_eq, chars}
 use lib.Utf8.{encodes, scalars}
 use Rattle.std.proofs.lemmas.Str.{IsUtf8-drop, IsCharBoundary-after_ascii, chars-encodes}
+use Rattle.std.proofs.lemmas.Bool.{not-true, and_parts}
 use Rattle.clap.specs.Lexer.{long_of, short_of}
 use Rattle.clap.specs.Kinds.{Kinds, or_else}
 use Rattle.clap.specs.Walk.{Held, Row, Text, Walk, idle, option, settled_rows, walked, with_values, has_row}
@@ -12,7 +13,7 @@ use Rattle.clap.specs.Faults.{flags_fault, settle_fault, turn_fault, walk_fault}
 use Rattle.clap.specs.declared.builder.value_parser.Reading.TheVariants as how
 use Rattle.clap.specs.declared.error.kind.ErrorKind.{ErrorKind}
 use Rattle.clap.specs.declared.parser.matches.ValueSource.TheVariants.{CommandLine}
-use Rattle.graph_model.proofs.BoolLemmas.{true_is_not, false_of, both, and_false}
+use Rattle.graph_model.proofs.BoolLemmas.{true_is_not, and_false}
 use Rattle.job_words.specs.Tables.{PositionRow}
 use Rattle.job_words.specs.Reading.{Given, Reading, refused, after_word, after_name, after_positional, after_shape, is_flag, is_option, shape_of, with_given}
 use Rattle.job_words.proofs.BoolLemmas.{same_eq, same_of}
@@ -206,7 +207,7 @@ module _ (s : Shape) (serves : Serves s) where
       → Goes (Some (record { given = with_given given row.name word; places = later; waiting = None })) (turn_fault s [] (resting h place) word) (walked s.rules [] (resting h place) word)
   unfolding walked
   resting_plain h rows given place row later word settles agrees free fits dashes long short =
-      let parts = both _ _ free in
+      let parts = and_parts _ _ free in
       rw (dashes, long, short, fits.0.by_index, and_false, settles.fine, fits.0.next) (
         refl,
         record {
@@ -218,7 +219,7 @@ module _ (s : Shape) (serves : Serves s) where
           stands = (
             record { rows = settled_rows s.rules h.pending h.rows; pending = Some (row.name, word ∷ []); skip = h.skip },
             refl,
-            position_settles _ rows h.skip place row later word settles.skips_none settles.rows_are (false_of _ parts.0) fits.0,
+            position_settles _ rows h.skip place row later word settles.skips_none settles.rows_are (not-true _ parts.0) fits.0,
           );
         },
       )

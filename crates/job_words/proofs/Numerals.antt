@@ -1,13 +1,13 @@
 -- A number that `parse` reads, and the number of a text.
 use Rattle.std.proofs.Common.{◌≡◌, ◌∙◌, ◌+◌, ◌^◌, ◌<◌, ◌≤◌, ◌&&◌, rules, Bool, true, false, cond, nat_lt, nat_le, ℕ, [], ◌∷◌, length, Some, None, Result, Ok, Err, refl, sym, ap, arith, lt-ltb, ltb-true, le-leb, leb-true, ◌⊎◌, inl, inr}
-use Rattle.std.proofs.lemmas.Bool.{cases_lt}
+use Rattle.std.proofs.lemmas.Bool.{cases_lt, false_from_ne_true}
 use Rattle.std.specs.List.{list_all}
 use Rattle.std.specs.Char.{is_ascii_digit}
 use Rattle.std.specs.Result.{OkIff, result_ok}
 use Rattle.std.specs.Str.Parse.{ParsesUnsigned, digits_value}
 use Rattle.std.proofs.lemmas.Str.Parse.{IsDigitsTest, IsNumeralModel, numerals_by_value, parse_digits}
 use Rattle.graph_model.specs.EdgeText.{has_bytes, number}
-use Rattle.graph_model.proofs.BoolLemmas.{not_true, true_is_not}
+use Rattle.graph_model.proofs.BoolLemmas.{true_is_not}
 use Rattle.job_words.specs.Tables.{Text}
 use Rattle.job_words.specs.Commands.{and_then, number_between}
 
@@ -60,7 +60,7 @@ below_some text bound n up some small =
 pub below_not : (text : Text) (bound n : ℕ) → bound ≤ 2 ^ 64 → Some n ≡ number (2 ^ 64) text → bound ≤ n → None ≡ number bound text
 below_not text bound n up some large =
     sym (number_below text bound up ∙ ap (λ o. and_then o (λ k. cond (nat_lt k bound) (Some k) None)) (sym some)
-    ∙ ap (λ b. cond b (Some n) None) (not_true (nat_lt n bound) (λ t. let small : n < bound = ltb-true n bound t in absurd (omega arith))))
+    ∙ ap (λ b. cond b (Some n) None) (false_from_ne_true (nat_lt n bound) (λ t. let small : n < bound = ltb-true n bound t in absurd (omega arith))))
 
 -- ---- from a least number
 
@@ -79,7 +79,7 @@ between_low text least greatest n up some low = by_bound (cases_lt greatest n)
   where
     by_bound : (greatest < n) ⊎ (n ≤ greatest) → None ≡ number_between least greatest text
     by_bound (inr small) =
-        sym (ap (λ b. cond b (Some n) None) (not_true (nat_le least n) (λ t. let large : least ≤ n = leb-true least n t in absurd (omega arith))))
+        sym (ap (λ b. cond b (Some n) None) (false_from_ne_true (nat_le least n) (λ t. let large : least ≤ n = leb-true least n t in absurd (omega arith))))
         ∙ ap (λ o. and_then o (λ k. cond (nat_le least k) (Some k) None)) (below_some text (greatest + 1) n (omega arith) some (omega arith))
     by_bound (inl large) =
         ap (λ o. and_then o (λ k. cond (nat_le least k) (Some k) None)) (below_not text (greatest + 1) n (omega arith) some (omega arith))
@@ -109,7 +109,7 @@ parsed (b ∷ text) (Ok n) all h =
     let fits = lt-ltb (digits_value 10 (b ∷ text)) (2 ^ 64) h.0.1 in
     rw (all, fits) (ap Some h.1)
 parsed (b ∷ text) (Err e) all h =
-    let fits = not_true (nat_lt (digits_value 10 (b ∷ text)) (2 ^ 64)) (λ t. h (omega arith, ltb-true (digits_value 10 (b ∷ text)) (2 ^ 64) t)) in
+    let fits = false_from_ne_true (nat_lt (digits_value 10 (b ∷ text)) (2 ^ 64)) (λ t. h (omega arith, ltb-true (digits_value 10 (b ∷ text)) (2 ^ 64) t)) in
     rw (all, fits) refl
 
 pub parsed_number : {E : Type 0} (text : Text) (r : Result ℕ E) → list_all is_ascii_digit text ≡ true → ParsesUnsigned 64 10 text r → result_ok r ≡ number (2 ^ 64) text

@@ -12,12 +12,12 @@ use Rattle.job_words.specs.declared.command.Command.{Command}
 use Rattle.job_words.specs.declared.command.Command.TheVariants.{Run, Bench, Resume, Discard}
 use Rattle.job_words.specs.Tables.{Text, vertex, between, ProgramRow, OptionRow, programs, engines_option, most_option, chunk_option, seed_option, alpha_option, limit_option, scale_option, edges_option, rng_option, vertices_option, command_word, program_word, argument_word}
 use Rattle.graph_model.specs.Partitions.{MAX_PARTS}
-use Rattle.graph_model.proofs.BoolLemmas.{both}
 use Rattle.std.proofs.Math.Nat.{pow-le-pow_right}
 use Rattle.job_words.specs.Reading.{given_of, texts_of}
 use Rattle.job_words.specs.Commands.{CommandRow, IsInRanges, IsNewJob, Texts, and_then, argument_given, bench_in, command_by, command_in, command_named, command_of, commands, discard_in, engines_of, gives_once, gives_only, resume_in, run_in, job_in, number_between, option_given, option_in, program_in, program_named, program_of}
 use Rattle.std.specs.Prelude.{IfOk, Result}
 use Rattle.std.specs.Option.{ok_or}
+use Rattle.std.proofs.lemmas.Bool.{and_parts}
 use Rattle.clap.specs.declared.parser.matches.ArgMatches.{ArgMatches}
 use Rattle.job_words.specs.declared.command.WordFault.{WordFault}
 use Rattle.job_words.specs.declared.command.WordFault.TheVariants.{Usage}
@@ -48,7 +48,7 @@ pub number_is_below : (bound : ℕ) (text : Text) (n : ℕ) → number bound tex
 unfolding number
 number_is_below bound text n e =
     let test = tested_of _ _ n e in
-    let parts = both _ _ (both _ _ test.0).1 in
+    let parts = and_parts _ _ (and_parts _ _ test.0).1 in
     subst (λ (k : ℕ). k < bound) test.1 (ltb-true _ bound parts.1)
 
 number_is_between : (least greatest : ℕ) (text : Text) (n : ℕ) → number_between least greatest text ≡ Some n → IsInRange least greatest n

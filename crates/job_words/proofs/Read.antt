@@ -3,6 +3,7 @@ use Rattle.std.proofs.Common.{◌≡◌, ◌∙◌, Bool, true, false, cond, ℕ
 use Rattle.std.specs.List.{list_all, list_any}
 use Rattle.std.proofs.lemmas.Str.{IsUtf8-had}
 use Rattle.std.specs.Prelude.{option_and_then}
+use Rattle.std.proofs.lemmas.Bool.{and_parts, or_parts}
 use Rattle.clap.specs.Kinds.{HasKind, IsAmong, Kinds, or_else}
 use Rattle.clap.specs.Values.{kind_of}
 use Rattle.clap.specs.declared.error.Error.{Error}
@@ -15,7 +16,7 @@ use Rattle.clap.specs.declared.error.kind.ErrorKind.{ErrorKind}
 use Rattle.clap.specs.declared.parser.matches.ArgMatches.{ArgMatches}
 use Rattle.clap.proofs.SimpleLemmas.{is_nil}
 use Rattle.clap.proofs.WalkLemmas.{list_any-map, raw_values-rows}
-use Rattle.graph_model.proofs.BoolLemmas.{both, or_true, neither}
+use Rattle.graph_model.proofs.BoolLemmas.{or_true}
 use Rattle.job_words.specs.Reading.{Given, Reading, given_by, given_of, nothing_read, after_word, is_option}
 use Rattle.job_words.specs.Reader.{reader, texts_in, is_lone, IsReadAs}
 use Rattle.job_words.proofs.ClapTexts.{Agrees, texts}
@@ -41,13 +42,13 @@ no_default_faults : (rules : List Rule) (rows : List Row) → has_no_defaults ru
 unfolding defaults_fault
 no_default_faults [] rows none = refl
 no_default_faults (a ∷ rules) rows none =
-    let parts = both _ _ none in
+    let parts = and_parts _ _ none in
     no_fault (default_fault rows a) (defaults_fault (with_default rows a) rules) (default_faultless rows a parts.0) (no_default_faults rules (with_default rows a) parts.1)
 
 no_default_rows : (rules : List Rule) (rows : List Row) → has_no_defaults rules ≡ true → fold with_default rows rules ≡ rows
 no_default_rows [] rows none = refl
 no_default_rows (a ∷ rules) rows none =
-    let parts = both _ _ none in ap (λ before. fold with_default before rules) (no_default rows a parts.0) ∙ no_default_rows rules rows parts.1
+    let parts = and_parts _ _ none in ap (λ before. fold with_default before rules) (no_default rows a parts.0) ∙ no_default_rows rules rows parts.1
 
 -- ---- there is no subcommand
 
@@ -157,7 +158,7 @@ lone_unread words lone =
 are_readable : {Z : Type 0} (words : List (String Z)) → list_any (λ word. is_lone (string_bytes word)) words ≡ false → AreReadable (map string_bytes words)
 are_readable [] none = tt
 are_readable (word ∷ words) none =
-    let parts = neither (is_lone (string_bytes word)) (list_any (λ w. is_lone (string_bytes w)) words) none in
+    let parts = or_parts (is_lone (string_bytes word)) (list_any (λ w. is_lone (string_bytes w)) words) none in
     (record { utf8 = IsUtf8-had (string_bytes word) word.ok; not_lone = parts.0 }, are_readable words parts.1)
 
 pub taken : {Z : Type 0} (app : App) (words : List (String Z)) (m : ArgMatches) → app ≡ reader → list_any (λ word. is_lone (string_bytes word)) words ≡ false

@@ -2,12 +2,11 @@
 use Rattle.std.proofs.Common.{◌≡◌, ℕ, zero, suc, ◌+◌, ◌-◌, ◌<◌, ◌≤◌, nat_lt, ◌==◌, Bool, true, false, if◌then◌else◌, List, [], ◌∷◌, ◌++◌, filter, refl, sym, ◌∙◌, subst, ap, arith, add-one, add-zero, zero-add, eq-eqb}
 use Rattle.std.proofs.Math.Nat.{mod-lt}
 use Rattle.std.specs.List.{range_with_len, sum_by}
-use Rattle.std.proofs.lemmas.Bool.{eqb-true, eqb-false}
+use Rattle.std.proofs.lemmas.Bool.{eqb-true, eqb-false, ne_eqb}
 use Rattle.std.proofs.lemmas.List.Elements.{filter-append}
 use Rattle.std.proofs.lemmas.List.Sums.{sum_by-append}
 use Rattle.graph_model.specs.Partitions.{first_vertex, part_len, master_of, parts_of_master, own_count, own_before}
 use Rattle.graph_model.proofs.ListLemmas.{range_with_len-more, sum_by_range-more}
-use Rattle.graph_model.proofs.BoolLemmas.{unequal}
 use Rattle.partitioner.specs.Splits.{own_below}
 use Rattle.partitioner.proofs.Ranges.{first_vertex-next, first_vertex-end}
 
@@ -29,7 +28,7 @@ own_below-master n engines parts p e master =
 
 pub own_below-other : (n engines parts p e : ℕ) → (master_of engines p ≡ e → ⊥) → own_below n engines parts (p + 1) e ≡ own_below n engines parts p e
 own_below-other n engines parts p e other =
-    own_more n engines parts p e [] (parts_more engines p e false (unequal (master_of engines p) e other)) ∙ add-zero (own_below n engines parts p e)
+    own_more n engines parts p e [] (parts_more engines p e false (ne_eqb (master_of engines p) e other)) ∙ add-zero (own_below n engines parts p e)
 
 -- one more partition, whether the engine has it or not
 own_more_by : (n engines parts p e : ℕ) (own : Bool) → master_of engines p == e ≡ own → own_below n engines parts (p + 1) e ≡ own_below n engines parts p e + (if own then part_len n parts p else 0)

@@ -2,7 +2,7 @@
 use Rattle.std.proofs.Common.{◌≡◌, ◌≢◌, ℕ, zero, suc, ◌+◌, ◌-◌, ◌/◌, ◌%◌, ◌<◌, ◌≤◌, ◌==◌, ◌&&◌, nat_lt, if◌then◌else◌, Bool, true, false, List, [], ◌∷◌, ◌++◌, get_or, flat_map, refl, sym, ◌∙◌, ap, subst, zero-add, eq-eqb, arith}
 use Rattle.std.specs.List.{All, count_by, fold}
 use Rattle.std.proofs.Math.Nat.{div-add-mod}
-use Rattle.std.proofs.lemmas.Bool.{eqb-true, eqb-false, ltb-true}
+use Rattle.std.proofs.lemmas.Bool.{eqb-true, eqb-false, ltb-true, ne_eqb}
 use Rattle.std.proofs.lemmas.List.Elements.{All-head, All-tail}
 use Rattle.graph_model.specs.declared.value.Update.{Update}
 use Rattle.graph_model.specs.Programs.{Rules}
@@ -24,7 +24,6 @@ use Rattle.phase_core.proofs.Shelved.{is_chunk, cursor_at, lens_other, IsMerged,
 use Rattle.phase_core.proofs.Taking.{values_are_sums, values_of_records, merged_fresh, split_kept}
 use Rattle.gather_laws.specs.Laws.{GatherLaws}
 use Rattle.graph_model.specs.Partitions.{partition_of}
-use Rattle.graph_model.proofs.BoolLemmas.{unequal}
 use Rattle.partitioner.specs.declared.split.Split.{Split}
 use Rattle.partitioner.specs.Splits.{IsSplit}
 use Rattle.chunk_model.specs.Chunks.{Chunk}
@@ -54,7 +53,7 @@ took_count cursor c n t k true is at =
     ∙ ap (λ j. 0 + (if n == t then 1 else 0) + one_below j t) (at here)
     ∙ next_one n t
 took_count cursor c n t k false is at =
-    ap (λ b. 0 + (if b && n == t then 1 else 0) + one_below k t) (unequal cursor c (λ equal. eqb-false c cursor is (sym equal))) ∙ zero-add (one_below k t)
+    ap (λ b. 0 + (if b && n == t then 1 else 0) + one_below k t) (ne_eqb cursor c (λ equal. eqb-false c cursor is (sym equal))) ∙ zero-add (one_below k t)
 
 module _ (rules : Rules) (m : Machine) (c t : ℕ) where
   abbrev pub Counts : Event → Reply → Type 0
@@ -168,7 +167,7 @@ no_engine split few (c ∷ chunks) all cursor past =
     let quotient : cursor / 64 ≡ c.0 = subst (λ k. k / 64 ≡ c.0) equal (cursor_parts c.0 c.1.partition small).0 in
     let below = here.engine in
     omega (arith, quotient, past, below) in
-    lens_other c chunks cursor (unequal (cursor_at c) cursor apart) ∙ no_engine split few chunks (All-tail (IsOfSplit split) c chunks all) cursor past
+    lens_other c chunks cursor (ne_eqb (cursor_at c) cursor apart) ∙ no_engine split few chunks (All-tail (IsOfSplit split) c chunks all) cursor past
 
 values_of_put : (vertex : ℕ) (chunks : Shelf Update) → flat_map (λ (c : ℕ × Chunk Update). values_to vertex c.1.items) chunks ≡ values_to vertex (updates_put chunks)
 values_of_put vertex [] = refl

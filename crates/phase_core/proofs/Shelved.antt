@@ -1,7 +1,7 @@
 -- The merge over the chunks of a shelf is the merge over what was taken of it, where each chunk was taken once.
 use Rattle.std.proofs.Common.{◌≡◌, ◌≢◌, ℕ, zero, suc, pred, ◌+◌, ◌==◌, ◌&&◌, not, if◌then◌else◌, Bool, true, false, List, [], ◌∷◌, ◌++◌, length, get_or, map, filter, flat_map, refl, sym, ◌∙◌, ap, subst, zero-add, arith, eq-eqb}
 use Rattle.std.specs.List.{All, count_by, fold}
-use Rattle.std.proofs.lemmas.Bool.{eqb-true, eqb-false, and_parts}
+use Rattle.std.proofs.lemmas.Bool.{eqb-true, eqb-false, and_parts, ne_eqb}
 use Rattle.std.proofs.lemmas.List.Elements.{All-head, All-tail, All-append, All-nil, All-weaker}
 use Rattle.chunk_object.proofs.Covered.{count-cons}
 use Rattle.gather_laws.specs.Laws.{MergeLaws}
@@ -10,7 +10,6 @@ use Rattle.chunk_object.specs.History.{one_below}
 use Rattle.chunk_object.specs.Epochs.{cursor_of}
 use Rattle.chunk_model.specs.Chunks.{Chunk}
 use Rattle.phase_model.specs.Shelves.{Shelf, at_cursor, lens_of, records_at, no_chunk}
-use Rattle.graph_model.proofs.BoolLemmas.{unequal}
 
 -- the cursor of a chunk with its engine
 abbrev pub cursor_at : {X : Type 0} → ℕ × Chunk X → ℕ
@@ -143,7 +142,7 @@ other_by place b true false apart = (λ kept. refl, λ out. refl)
 other_by place b false u apart = (λ kept. refl, λ out. absurd (grind arith))
 
 other_tests : (k cursor place : ℕ) → cursor ≢ k → (y : ℕ × ℕ) → (is_other k 0 y ≡ true → is_chunk cursor place (moved_up k y) ≡ is_chunk cursor place y) × (is_other k 0 y ≡ false → is_chunk cursor place y ≡ false)
-other_tests k cursor place apart (a, b) = other_by place b (a == k) (a == cursor) (λ same. unequal a cursor (λ equal. apart (sym equal ∙ eqb-true a k same)))
+other_tests k cursor place apart (a, b) = other_by place b (a == k) (a == cursor) (λ same. ne_eqb a cursor (λ equal. apart (sym equal ∙ eqb-true a k same)))
 
 module _ (unit : ℕ) (merge : ℕ → ℕ → ℕ) (IsSum : ℕ → Type 0) (laws : MergeLaws unit merge IsSum) where
   -- the numbers of all that was taken are sums
@@ -232,7 +231,7 @@ module _ (unit : ℕ) (merge : ℕ → ℕ → ℕ) (IsSum : ℕ → Type 0) (la
         moved_place : (a b : ℕ) (same : Bool) → a == k ≡ same → not (same && b == 0) ≡ true → g (records_at (c ∷ made) a b) ≡ g (records_at made a (if same then pred b else b))
         moved_place a zero true same other = absurd (grind arith)
         moved_place a (suc b) true same other = ap g (records_later c made a (eq-eqb k a (sym (eqb-true a k same))) b)
-        moved_place a b false same other = ap g (records_other c made a (unequal k a (λ equal. eqb-false a k same (sym equal))) b)
+        moved_place a b false same other = ap g (records_other c made a (ne_eqb k a (λ equal. eqb-false a k same (sym equal))) b)
 
         moved : (y : ℕ × ℕ) → is_other k 0 y ≡ true → f y ≡ of_shelf made (moved_up k y)
         moved (a, b) other = moved_place a b (a == k) refl other
@@ -249,10 +248,10 @@ module _ (unit : ℕ) (merge : ℕ → ℕ → ℕ) (IsSum : ℕ → Type 0) (la
             let apart : cursor ≢ k = eqb-false cursor k same in
             count_moved (is_other k 0) (moved_up k) (is_chunk cursor place) (is_chunk cursor place) (other_tests k cursor place apart) taken
             ∙ once cursor place own
-            ∙ ap (λ n. one_below n place) (lens_other c made cursor (unequal k cursor (λ equal. apart (sym equal))))
+            ∙ ap (λ n. one_below n place) (lens_other c made cursor (ne_eqb k cursor (λ equal. apart (sym equal))))
 
         same_other : (y : ℕ × ℕ) (mine_too : Bool) → mine y.0 ≡ mine_too → mine k ≡ false → f y ≡ of_shelf made y
-        same_other y true is own = ap g (records_other c made y.0 (unequal k y.0 (λ equal. grind (arith, own, is, ap mine equal))) y.1)
+        same_other y true is own = ap g (records_other c made y.0 (ne_eqb k y.0 (λ equal. grind (arith, own, is, ap mine equal))) y.1)
         same_other y false is own = shelf_others (c ∷ made) all y.0 y.1 is ∙ sym (shelf_others made (All-tail IsMerged c made all) y.0 y.1 is)
 
         by_mine : (own : Bool) → mine k ≡ own →
@@ -268,7 +267,7 @@ module _ (unit : ℕ) (merge : ℕ → ℕ → ℕ) (IsSum : ℕ → Type 0) (la
             ∙ ap (merge (merged (g c.1.items))) (rest (map (moved_up k) kept) (λ cursor place own. counted cursor place (cursor == k) refl own))
             ∙ sym (merged-append unit merge IsSum laws (g c.1.items) (of_all made) (All-head IsMerged c made all).sums (all_sums made (All-tail IsMerged c made all)))
         by_mine false own rest =
-            let others : (cursor : ℕ) → mine cursor ≡ true → k == cursor ≡ false = λ cursor mine_too. unequal k cursor (λ equal. grind (arith, own, mine_too, ap mine equal)) in
+            let others : (cursor : ℕ) → mine cursor ≡ true → k == cursor ≡ false = λ cursor mine_too. ne_eqb k cursor (λ equal. grind (arith, own, mine_too, ap mine equal)) in
             ap (fold merge unit) (same_anywhere f (of_shelf made) (λ y. same_other y (mine y.0) refl own) taken)
             ∙ rest taken (λ cursor place mine_too. once cursor place mine_too ∙ ap (λ n. one_below n place) (lens_other c made cursor (others cursor mine_too)))
             ∙ sym (ap (λ front. fold merge unit (front ++ of_all made)) ((All-head IsMerged c made all).others own))

@@ -2,14 +2,13 @@
 use Rattle.std.proofs.Common.{◌≡◌, ◌≢◌, ℕ, suc, ◌+◌, ◌*◌, ◌-◌, ◌<◌, ◌≤◌, ◌==◌, nat_lt, if◌then◌else◌, nat_le, ◌&&◌, not, Bool, true, false, List, [], ◌∷◌, length, get_or, replicate, refl, sym, ◌∙◌, ap, subst, arith, eq-eqb}
 use Rattle.std.proofs.Math.Path.{fun_ext}
 use Rattle.std.specs.List.{All, fold}
-use Rattle.std.proofs.lemmas.Bool.{and_parts, cond-true, cond-false, eqb-true, eqb-false, ltb-true, lt-ltb}
+use Rattle.std.proofs.lemmas.Bool.{and_parts, cond-true, cond-false, eqb-true, eqb-false, ltb-true, lt-ltb, ne_eqb}
 use Rattle.std.proofs.lemmas.List.{get_or_default}
 use Rattle.std.proofs.Math.ListN.{get_or-eq_default}
 use Rattle.std.proofs.Math.Nat.{mul-le-mul_left}
 use Rattle.std.proofs.lemmas.List.Elements.{All-head, All-tail}
 use Rattle.graph_model.specs.declared.value.Update.{Update}
 use Rattle.graph_model.specs.Programs.{Rules}
-use Rattle.graph_model.proofs.BoolLemmas.{unequal}
 use Rattle.chunk_object.specs.Object.{put_at}
 use Rattle.chunk_object.specs.Epochs.{cursor_of}
 use Rattle.chunk_object.specs.History.{one_below}
@@ -130,7 +129,7 @@ values_to_past : (v n : ℕ) (updates : List Update) → All (λ (u : Update). u
 values_to_past v n [] all past = refl
 values_to_past v n (u ∷ updates) all past =
     let below : u.dst < n = All-head (λ (u : Update). u.dst < n) u updates all in
-    let apart : (u.dst == v) ≡ false = unequal u.dst v (omega arith) in
+    let apart : (u.dst == v) ≡ false = ne_eqb u.dst v (omega arith) in
     rw apart (values_to_past v n updates (All-tail (λ (u : Update). u.dst < n) u updates all) past)
 
 -- a place of a list of the same length that has the same number, at another default

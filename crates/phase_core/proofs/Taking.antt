@@ -1,14 +1,13 @@
 -- What each worker took, and what the merge of all sums is.
 use Rattle.std.proofs.Common.{◌≡◌, ◌≢◌, ℕ, ◌==◌, ◌&&◌, not, nat_lt, nat_le, if◌then◌else◌, Bool, true, false, List, [], ◌∷◌, ◌++◌, map, filter, flat_map, refl, sym, ◌∙◌, ap, subst, append-nil, eq-eqb}
 use Rattle.std.specs.List.{All, fold, range_with_len}
-use Rattle.std.proofs.lemmas.Bool.{eqb-true, eqb-false, cond-true, cond-false}
+use Rattle.std.proofs.lemmas.Bool.{eqb-true, eqb-false, cond-true, cond-false, ne_eqb}
 use Rattle.std.proofs.lemmas.List.Sums.{fold-append}
 use Rattle.std.proofs.lemmas.List.Elements.{All-map, All-filter, All-nil}
 use Rattle.gather_laws.specs.Laws.{GatherLaws}
 use Rattle.gather_laws.proofs.MergeLemmas.{merged_is_sum, merged-append}
 use Rattle.graph_model.specs.declared.value.Update.{Update}
 use Rattle.graph_model.specs.Programs.{Rules}
-use Rattle.graph_model.proofs.BoolLemmas.{unequal}
 use Rattle.partitioner.specs.declared.split.Split.{Split}
 use Rattle.chunk_object.specs.declared.call.Call.{Call}
 use Rattle.chunk_object.specs.Epochs.{cursor_of}
@@ -62,7 +61,7 @@ module _ (rules : Rules) where
 
   other_sum : (m : Machine) (event : Event) (r : Reply) (worker vertex : ℕ) → worker ≢ worker_of event → (after_reply rules m event r).sums worker vertex ≡ m.sums worker vertex
   other_sum m (Claim w engine partition) (Took chunk) worker vertex other =
-      ap (λ (f : ℕ → ℕ). f vertex) (cond-false (worker == w) (folded rules (records_at m.chunks (cursor_of engine partition) chunk) (m.sums w)) (m.sums worker) (unequal worker w other))
+      ap (λ (f : ℕ → ℕ). f vertex) (cond-false (worker == w) (folded rules (records_at m.chunks (cursor_of engine partition) chunk) (m.sums w)) (m.sums worker) (ne_eqb worker w other))
   other_sum m (Look w engine partition) (Number left) worker vertex other = refl
   other_sum m (Heads w partition) (Number heads) worker vertex other = refl
   other_sum m (Admit w partition seen) Admitted worker vertex other = refl

@@ -1,5 +1,5 @@
-pub mod Faults
 pub mod Parts
+pub mod Rising
 pub mod Stops
 pub mod Streams
 pub mod Told

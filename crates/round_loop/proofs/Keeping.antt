@@ -2,7 +2,7 @@
 use Rattle.std.proofs.Common.{◌≡◌, ℕ, List, Vec, length, get_or, inl, inr, refl, ◌∙◌, arith}
 use Rattle.std.specs.Global.{Global}
 use Rattle.ports.specs.Disk.{DiskState}
-use Rattle.ports.proofs.Faults.{count_rose_before, count_rose_after}
+use Rattle.ports.proofs.Rising.{count_rose_before, count_rose_after}
 use Rattle.ports.specs.Devices.{OneRose, MetersGoOn}
 use Rattle.store_reader.specs.declared.store.Store.{Store}
 use Rattle.update_lanes.specs.Lanes.{GoOn}

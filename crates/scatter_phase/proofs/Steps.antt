@@ -8,7 +8,7 @@ use Rattle.graph_model.specs.declared.job.Job.{Job}
 use Rattle.graph_model.specs.Programs.{Rules}
 use Rattle.ports.specs.Disk.{DiskState}
 use Rattle.ports.specs.Faults.{Rose}
-use Rattle.ports.proofs.Faults.{count_rose_before, count_rose_after}
+use Rattle.ports.proofs.Rising.{count_rose_before, count_rose_after}
 use Rattle.ports.specs.Devices.{OneRose}
 use Rattle.partitioner.specs.declared.split.Split.{Split}
 use Rattle.partitioner.specs.Splits.{IsSplitOf}

@@ -3,7 +3,7 @@ use Rattle.std.proofs.Common.{◌≡◌, ◌∙◌, ℕ, ◌+◌, ◌<◌, ◌�
 use Rattle.std.proofs.lemmas.List.{get_or-set_same, get_or-set_other, get_or_default, length-set}
 use Rattle.ports.specs.Disk.{DiskState, IsDisk, InEveryImage}
 use Rattle.ports.specs.Faults.{Rose}
-use Rattle.ports.proofs.Faults.{count_rose_before, count_rose_after}
+use Rattle.ports.proofs.Rising.{count_rose_before, count_rose_after}
 use Rattle.ports.specs.Devices.{Each, OneRose}
 use Rattle.store_model.specs.Heads.{IsShutGraph}
 use Rattle.graph_model.proofs.ListLemmas.{at_set}

@@ -1,9 +1,8 @@
 -- What is known of a head whose fields are all well formed.
 use Rattle.std.proofs.Common.{◌≡◌, ◌∙◌, ℕ, zero, suc, ◌^◌, ◌<◌, ◌≤◌, ◌==◌, ◌||◌, nat_le, nat_lt, Bool, true, false, if◌then◌else◌, List, [], ◌∷◌, length, get_or, Option, Some, None, refl, sym, ap, arith, lit<}
-use Rattle.std.proofs.lemmas.Bool.{leb-true, ltb-true, eqb-true}
+use Rattle.std.proofs.lemmas.Bool.{leb-true, ltb-true, eqb-true, and_parts}
 use Rattle.graph_model.specs.declared.job.Job.{Job}
 use Rattle.graph_model.specs.Jobs.{IsWellFormedJob, IsWellFormedProgram, most_vertices}
-use Rattle.graph_model.proofs.BoolLemmas.{both}
 use Rattle.store_model.specs.declared.field.Field.{Field}
 use Rattle.store_model.specs.declared.field.Field.TheVariants.{Format, Engines, Engine, Program, Argument, Vertices, Most, Chunk, Alpha, Limit}
 use Rattle.store_model.specs.declared.field.TheConstants.{FIELDS}
@@ -25,7 +24,7 @@ good_at test (field ∷ fields) none zero d less = (head_passes test field field
 good_at test (field ∷ fields) none (suc k) d less = good_at test fields (head_passes test field fields (test field) refl none).1 k d (omega arith)
 
 within_is : (low high x : ℕ) → within low high x ≡ true → (low ≤ x) × (x ≤ high)
-within_is low high x is = let parts = both (nat_le low x) (nat_le x high) is in (leb-true low x parts.0, leb-true x high parts.1)
+within_is low high x is = let parts = and_parts (nat_le low x) (nat_le x high) is in (leb-true low x parts.0, leb-true x high parts.1)
 
 pub record GoodHead (head : List ℕ) : Type 0 where
   pub format : (1 ≤ value_of Format head) × (value_of Format head ≤ 2)
@@ -42,7 +41,7 @@ pub record GoodHead (head : List ℕ) : Type 0 where
 pub good_head : (e : ℕ) (head : List ℕ) → first_bad (is_good e head) FIELDS ≡ None → GoodHead head
 good_head e head none =
     let at = good_at (is_good e head) FIELDS none in
-    let most = both (within 1 67108864 (value_of Most head)) (nat_le (parts_in head) 64) (at 8 Format (lit< tt)) in
+    let most = and_parts (within 1 67108864 (value_of Most head)) (nat_le (parts_in head) 64) (at 8 Format (lit< tt)) in
     record {
       format = within_is 1 2 (value_of Format head) (at 0 Format (lit< tt));
       engines = within_is 1 8 (value_of Engines head) (at 1 Format (lit< tt));

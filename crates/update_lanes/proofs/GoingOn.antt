@@ -3,7 +3,7 @@ use Rattle.std.proofs.Common.{◌≡◌, ℕ, ◌<◌, List, length, get_or, ref
 use Rattle.std.specs.Prelude.{Result, Ok, Err, IfErr, OnOk, OnErr}
 use Rattle.std.specs.Result.{IsErr, IsErrAnd}
 use Rattle.ports.specs.Disk.{DiskState}
-use Rattle.ports.proofs.Faults.{count_rose_before, count_rose_after}
+use Rattle.ports.proofs.Rising.{count_rose_before, count_rose_after}
 use Rattle.ports.specs.Devices.{OneRose}
 use Rattle.update_lanes.specs.Lanes.{GoOn}
 

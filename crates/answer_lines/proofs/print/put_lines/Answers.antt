@@ -1,6 +1,6 @@
 use Rattle.std.proofs.Common.{◌∙◌, rules}
 use Rattle.value_text.specs.Shown.{shows_side}
-use Rattle.ports.proofs.Faults.{on_err}
+use Rattle.ports.proofs.Rising.{on_err}
 use Rattle.answer_lines.proofs.Printed.{line_passes, lines_front}
 use Rattle.answer_lines.proofs.print.put_lines.Goals as goal
 

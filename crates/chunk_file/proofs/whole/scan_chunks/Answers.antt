@@ -1,7 +1,7 @@
 use Rattle.std.proofs.Common.{◌≡◌, ℕ, ◌+◌, ◌*◌, ◌<◌, length, drop, ap, sym, subst, inl, arith}
 use Rattle.std.specs.Prelude.{IfSome}
 use Rattle.ports.specs.Faults.{Rose}
-use Rattle.ports.proofs.Faults.{count_rose_before}
+use Rattle.ports.proofs.Rising.{count_rose_before}
 use Rattle.chunk_file.specs.Causes.{HasChunkCause}
 use Rattle.chunk_file.proofs.Faulty.{handed_on}
 use Rattle.chunk_file.specs.Places.{total_of, on_graph}

@@ -3,7 +3,7 @@ use Rattle.std.specs.List.{All}
 use Rattle.std.specs.Vec.{with_items}
 use Rattle.std.proofs.lemmas.List.{length-map}
 use Rattle.ports.specs.Disk.{InEveryImage}
-use Rattle.ports.proofs.Faults.{on_err}
+use Rattle.ports.proofs.Rising.{on_err}
 use Rattle.ports.specs.Devices.{Each, OneRose}
 use Rattle.store_model.specs.Heads.{IsShutGraph}
 use Rattle.restart.specs.Dropping.{Closes, Empties}

@@ -1,7 +1,7 @@
 use Rattle.std.proofs.Common.{◌≡◌, ◌<◌, length, get_or, rules, arith}
 use Rattle.std.proofs.lemmas.Grind.{common_steps}
 use Rattle.std.specs.List.{All}
-use Rattle.ports.proofs.Faults.{on_err}
+use Rattle.ports.proofs.Rising.{on_err}
 use Rattle.ports.specs.Devices.{Each, OneRose}
 use Rattle.restart.specs.Dropping.{Empties, IsEmpty}
 use Rattle.restart.proofs.Devices.{next_steps, one_done, given_back, row_rose_here}

@@ -1,5 +1,5 @@
 use Rattle.std.proofs.Common.{inl, inr}
-use Rattle.ports.proofs.Faults.{on_err}
+use Rattle.ports.proofs.Rising.{on_err}
 use Rattle.ports.specs.Devices.{OneRose}
 use Rattle.restart.specs.Devices.{OneRowRose}
 use Rattle.restart.proofs.Devices.{on_err_map, given_back}

@@ -1,9 +1,9 @@
 use Rattle.std.proofs.Common.{◌≡◌, ◌∙◌, ◌==◌, ◌&&◌, ◌<◌, ◌^◌, ℕ, List, nat_le, Some, IfSome, sym, subst, rules, arith}
+use Rattle.std.proofs.lemmas.Bool.{not-false}
 use Rattle.ports.specs.Faults.{Rose}
 use Rattle.store_model.specs.Slots.{slot_of, slot_start}
 use Rattle.store_model.specs.Damage.{slot_fault, ValuesDamaged}
 use Rattle.store_reader.specs.Reading.{own_in, TellsHead}
-use Rattle.graph_model.proofs.BoolLemmas.{true_of}
 use Rattle.store_checks.specs.Causes.{HasRecoverCause}
 use Rattle.store_checks.proofs.SlotReads.{round_read, changed_read, open_read, open_slot_test, bad_slot}
 use Rattle.store_checks.proofs.rounds.read_slot.Goals as goal
@@ -15,7 +15,7 @@ returns-clause-read g c = λ told is.
     let tells = subst (λ x. IfSome x (TellsHead own c.args.slot head)) is c.in-Ok.ensures.head in
     let round_fits : head.round < 2 ^ 64 = first_of (omega arith, search rules) in
     let changed_fits : head.changed < 2 ^ 64 = first_of (omega arith, search rules) in
-    (open_read own c.args.slot head told tells ∙ true_of head.is_open c.if-not-head.false, round_read own c.args.slot head told round_fits tells, changed_read own c.args.slot head told changed_fits tells)
+    (open_read own c.args.slot head told tells ∙ not-false head.is_open c.if-not-head.false, round_read own c.args.slot head told round_fits tells, changed_read own c.args.slot head told changed_fits tells)
 
 pub returns-clause-sound : goal.returns-clause-sound
 returns-clause-sound g c = λ told is.
@@ -26,7 +26,7 @@ returns-clause-sound g c = λ told is.
     let changed_fits : head.changed < 2 ^ 64 = first_of (omega arith, search rules) in
     let test : c.is_round_of.result ≡ ((slot_of head.round == c.args.slot) && nat_le head.round 1000000 && nat_le head.changed own) =
     subst (λ n. c.is_round_of.result ≡ ((slot_of head.round == c.args.slot) && nat_le head.round 1000000 && nat_le head.changed n)) c.own-own.ensures c.is_round_of.ensures in
-    open_slot_test own c.args.slot head told c.is_round_of.result round_fits changed_fits tells (true_of head.is_open c.if-not-head.false) test ∙ c.if-not-is_round_of.false
+    open_slot_test own c.args.slot head told c.is_round_of.result round_fits changed_fits tells (not-false head.is_open c.if-not-head.false) test ∙ c.if-not-is_round_of.false
 
 pub returns-then-not-is_round_of-clause-cause : goal.returns-then-not-is_round_of-clause-cause
 returns-then-not-is_round_of-clause-cause g c =
@@ -44,4 +44,4 @@ returns-then-not-is_round_of-clause-cause g c =
     (λ told is.
     let tells = subst (λ x. IfSome x (TellsHead own slot head)) is c.in-Ok.ensures.head in
     subst (λ n. slot_fault own e slot told ≡ Some (ValuesDamaged e (slot_start n slot))) (sym c.own-own.ensures)
-    (bad_slot own e slot told (open_slot_test own slot head told c.is_round_of.result round_fits changed_fits tells (true_of head.is_open c.if-not-head.false) test ∙ c.if-not-is_round_of.true)))
+    (bad_slot own e slot told (open_slot_test own slot head told c.is_round_of.result round_fits changed_fits tells (not-false head.is_open c.if-not-head.false) test ∙ c.if-not-is_round_of.true)))

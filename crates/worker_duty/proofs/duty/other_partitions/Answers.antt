@@ -1,6 +1,6 @@
 use Rattle.std.proofs.Common.{◌≡◌, ◌≢◌, ◌+◌, true, false, not, refl, subst, arith, ◌∙◌}
+use Rattle.std.proofs.lemmas.Bool.{not-true, not-false}
 use Rattle.chunk_object.specs.Duty.{is_on, Helps}
-use Rattle.graph_model.proofs.BoolLemmas.{false_of, true_of}
 use Rattle.worker_duty.specs.Shares.{is_master, HelpsAt}
 use Rattle.worker_duty.proofs.Parts.{PartTo, part_none, part_skip, part_more, part_stopped}
 use Rattle.worker_duty.proofs.Shares.{apart_partitions}
@@ -37,10 +37,10 @@ others-preserved g c = record {
   table = c.help-worked.ensures.table ∙ c.others.invariant.table;
   worker = worker_stays _ _ _ c.help-worked.result c.help-worked.ensures.piece ∙ c.others.invariant.worker;
   part = part_more is_on (λ p. not (is_master (g.P.Phase.terms c.args.context.now) c.args.share.worker p)) (Helps (g.P.Phase.terms c.args.context.now)) apart_partitions (HelpsAt (g.P.Phase.terms c.args.context.now) c.others.partition) c.others.partition _ _ _ _ _ _ _ true c.help-worked.result (other_is (g.P.Phase.terms c.args.context.now) c.args.share.worker c.others.partition c.args.share.engines c.requires.numbers.1 c.if-partition-share.false)
-      (other_share (g.P.Phase.terms c.args.context.now) c.requires.few.partitions c.args.share.worker c.others.partition) c.others.invariant.part c.help-worked.ensures.piece (true_of c.help-worked.result.is_through c.if-not-worked.false) refl refl;
+      (other_share (g.P.Phase.terms c.args.context.now) c.requires.few.partitions c.args.share.worker c.others.partition) c.others.invariant.part c.help-worked.ensures.piece (not-false c.help-worked.result.is_through c.if-not-worked.false) refl refl;
   may = λ p below from other. work_elsewhere (g.P.Phase.terms c.args.context.now) c.requires.few.partitions c.args.share.worker (HelpsAt (g.P.Phase.terms c.args.context.now) c.others.partition) (g.P.Phase.lens c.args.context.now) p c.others.partition _ _ c.help-worked.result (omega (arith, c.requires.few.partitions, c.requires.numbers.2)) (omega (arith, c.requires.few.partitions, c.requires.numbers.2))
       (let ne : c.others.partition ≢ p = λ (same : c.others.partition ≡ p). omega arith in ne) (λ l helps. helps.only) c.help-worked.ensures.piece (c.others.invariant.may p below (omega arith) other);
-  rests = c.help-worked.ensures.rests (true_of c.help-worked.result.is_through c.if-not-worked.false);
+  rests = c.help-worked.ensures.rests (not-false c.help-worked.result.is_through c.if-not-worked.false);
   few = omega (arith, c.others.invariant.few, c.help-worked.ensures.few.0);
   helped = omega (arith, c.others.invariant.helped, c.help-worked.ensures.few.1);
 }
@@ -49,7 +49,7 @@ pub returns-then-not-worked-clause-piece : goal.returns-then-not-worked-clause-p
 returns-then-not-worked-clause-piece g c =
     let more = part_more is_on (λ p. not (is_master (g.P.Phase.terms c.args.context.now) c.args.share.worker p)) (Helps (g.P.Phase.terms c.args.context.now)) apart_partitions (HelpsAt (g.P.Phase.terms c.args.context.now) c.others.partition) c.others.partition (g.P.Phase.hold c.args.desk.now).view (g.P.Phase.hold c.others.desk).view (g.P.Phase.hold c.help-worked.new.desk).view c.others.claims c.others.admitted
     (c.others.claims + c.help-worked.result.claims) (c.others.admitted + c.help-worked.result.admitted) false c.help-worked.result (other_is (g.P.Phase.terms c.args.context.now) c.args.share.worker c.others.partition c.args.share.engines c.requires.numbers.1 c.if-partition-share.false) (other_share (g.P.Phase.terms c.args.context.now) c.requires.few.partitions c.args.share.worker c.others.partition) c.others.invariant.part
-    c.help-worked.ensures.piece (false_of c.help-worked.result.is_through c.if-not-worked.true) refl refl in
+    c.help-worked.ensures.piece (not-true c.help-worked.result.is_through c.if-not-worked.true) refl refl in
     part_stopped is_on (λ p. not (is_master (g.P.Phase.terms c.args.context.now) c.args.share.worker p)) (Helps (g.P.Phase.terms c.args.context.now)) apart_partitions (c.others.partition + 1) c.args.share.partitions _ _ _ _ (omega arith) (λ i below is. some_other (g.P.Phase.terms c.args.context.now) c.requires.few.partitions c.args.share.worker i (omega (arith, c.requires.numbers.2)) is) more
 
 pub returns-clause-piece : goal.returns-clause-piece

@@ -1,6 +1,6 @@
 use Rattle.std.proofs.Common.{◌≡◌, ◌≢◌, ◌≤◌, ◌%◌, ◌+◌, true, false, refl, ap, sym, subst, arith, ◌∙◌}
+use Rattle.std.proofs.lemmas.Bool.{not-true, not-false}
 use Rattle.chunk_object.specs.Duty.{is_on, ClaimsToTheEnd}
-use Rattle.graph_model.proofs.BoolLemmas.{false_of, true_of}
 use Rattle.worker_duty.specs.Shares.{is_master, DrainsTo}
 use Rattle.worker_duty.proofs.Parts.{PartTo, part_none, part_skip, part_more, part_stopped}
 use Rattle.worker_duty.proofs.Shares.{apart_partitions, drained_on}
@@ -35,12 +35,12 @@ own-preserved g c = record {
   table = c.drain_partition-worked.ensures.table ∙ c.own.invariant.table;
   worker = worker_stays _ _ _ c.drain_partition-worked.result c.drain_partition-worked.ensures.piece ∙ c.own.invariant.worker;
   part = part_more is_on (is_master (g.P.Phase.terms c.args.context.now) c.args.share.worker) (ClaimsToTheEnd (g.P.Phase.terms c.args.context.now).engines) apart_partitions (DrainsTo c.own.partition c.args.share.engines) c.own.partition _ _ _ _ _ _ _ true c.drain_partition-worked.result (master_is (g.P.Phase.terms c.args.context.now) c.args.share.worker c.own.partition c.args.share.engines c.requires.numbers.1 c.if-partition-share.false)
-      (own_share (g.P.Phase.terms c.args.context.now) c.requires.few.partitions c.args.share.worker c.args.share.engines c.requires.numbers.1 c.own.partition (omega (arith, c.requires.numbers.2))) c.own.invariant.part c.drain_partition-worked.ensures.piece (true_of c.drain_partition-worked.result.is_through c.if-not-worked.false) refl (omega (arith, c.drain_partition-worked.ensures.few.1));
+      (own_share (g.P.Phase.terms c.args.context.now) c.requires.few.partitions c.args.share.worker c.args.share.engines c.requires.numbers.1 c.own.partition (omega (arith, c.requires.numbers.2))) c.own.invariant.part c.drain_partition-worked.ensures.piece (not-false c.drain_partition-worked.result.is_through c.if-not-worked.false) refl (omega (arith, c.drain_partition-worked.ensures.few.1));
   may = λ p below from.
       let ne : c.own.partition ≢ p = λ (same : c.own.partition ≡ p). let h : c.own.partition + 1 ≤ p = from (ap (λ n. n % c.args.share.engines) (sym same) ∙ c.if-partition-share.false) in omega (arith, h) in
       work_elsewhere (g.P.Phase.terms c.args.context.now) c.requires.few.partitions c.args.share.worker (DrainsTo c.own.partition c.args.share.engines) (g.P.Phase.lens c.args.context.now) p c.own.partition _ _ c.drain_partition-worked.result (omega (arith, c.requires.few.partitions, c.requires.numbers.2)) (omega (arith, c.requires.few.partitions, c.requires.numbers.2)) ne
       (λ l drains. drained_on c.args.share.engines c.own.partition (omega (arith, c.requires.few.partitions, c.requires.numbers.2)) l drains) c.drain_partition-worked.ensures.piece (c.own.invariant.may p below (λ is. let h : c.own.partition + 1 ≤ p = from is in omega (arith, h)));
-  rests = c.drain_partition-worked.ensures.rests (true_of c.drain_partition-worked.result.is_through c.if-not-worked.false);
+  rests = c.drain_partition-worked.ensures.rests (not-false c.drain_partition-worked.result.is_through c.if-not-worked.false);
   few = omega (arith, c.own.invariant.few, c.drain_partition-worked.ensures.few.0);
 }
 
@@ -48,7 +48,7 @@ pub returns-then-not-worked-clause-piece : goal.returns-then-not-worked-clause-p
 returns-then-not-worked-clause-piece g c =
     let more = part_more is_on (is_master (g.P.Phase.terms c.args.context.now) c.args.share.worker) (ClaimsToTheEnd (g.P.Phase.terms c.args.context.now).engines) apart_partitions (DrainsTo c.own.partition c.args.share.engines) c.own.partition (g.P.Phase.hold c.args.desk.now).view (g.P.Phase.hold c.own.desk).view (g.P.Phase.hold c.drain_partition-worked.new.desk).view c.own.claims 0
     (c.own.claims + c.drain_partition-worked.result.claims) 0 false c.drain_partition-worked.result (master_is (g.P.Phase.terms c.args.context.now) c.args.share.worker c.own.partition c.args.share.engines c.requires.numbers.1 c.if-partition-share.false) (own_share (g.P.Phase.terms c.args.context.now) c.requires.few.partitions c.args.share.worker c.args.share.engines c.requires.numbers.1 c.own.partition (omega (arith, c.requires.numbers.2))) c.own.invariant.part
-    c.drain_partition-worked.ensures.piece (false_of c.drain_partition-worked.result.is_through c.if-not-worked.true) refl (omega (arith, c.drain_partition-worked.ensures.few.1)) in
+    c.drain_partition-worked.ensures.piece (not-true c.drain_partition-worked.result.is_through c.if-not-worked.true) refl (omega (arith, c.drain_partition-worked.ensures.few.1)) in
     part_stopped is_on (is_master (g.P.Phase.terms c.args.context.now) c.args.share.worker) (ClaimsToTheEnd (g.P.Phase.terms c.args.context.now).engines) apart_partitions (c.own.partition + 1) c.args.share.partitions _ _ _ _ (omega arith) (λ i below is. some_own (g.P.Phase.terms c.args.context.now) c.requires.few.partitions c.args.share.worker i (omega (arith, c.requires.numbers.2)) is) more
 
 pub returns-clause-piece : goal.returns-clause-piece

@@ -1,7 +1,7 @@
 use Rattle.std.proofs.Common.{◌≡◌, List, ℕ, take, OnOk, ◌∙◌, ap, subst}
 use Rattle.ports.specs.Sink.{Appends, AppendsFront}
 use Rattle.ports.specs.Told.{AsTold}
-use Rattle.ports.proofs.Faults.{on_err}
+use Rattle.ports.proofs.Rising.{on_err}
 use Rattle.answer_lines.proofs.buffer.LineBuffer.flush.Goals as goal
 
 pub returns-clause-whole : goal.returns-clause-whole
