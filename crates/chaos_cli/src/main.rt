@@ -1,7 +1,8 @@
 //! The program: `chaos` over the three standard streams and the files of a folder.
 //!
 //! It hands the words of its command line to the top call, with a store whose devices are the files of the folder
-//! `chaos_store` in the current one, and ends with the status that this answers. Nothing is computed here.
+//! `chaos_store` in the current one, and ends with the status that this answers. Nothing is computed here. It may touch the
+//! three standard streams, that folder and the files in it, and nothing else.
 #![tactic(auto)]
 
 mod devices;

@@ -12,7 +12,7 @@ use Rattle.job_words.specs.declared.command.Command.TheVariants.{Run, Bench, Res
 use Rattle.round_loop.specs.Keeping.{moment}
 use Rattle.store_rounds.proofs.Places.{idle_stop}
 use Rattle.endings.specs.Endings.{message}
-use Rattle.endings.specs.Telling.{Tells}
+use Rattle.endings.specs.Telling.{Announces}
 use Rattle.endings.specs.declared.ending.Ending.TheVariants.{Memory, Usage}
 use Rattle.run_model.specs.Calls.{Call, IsReady}
 use Rattle.run_model.specs.Runs.{IsRun}
@@ -84,7 +84,7 @@ ready_later state many store meters seat b n later ready = record {
 }
 
 -- want of memory is told in the same words, whether a report is asked for or not
-pub told_memory : (reports : Bool) (status : ℕ) (err err_after : Option (List ℕ)) (faults faults_after : ℕ) → Tells false Memory status err err_after faults faults_after → Tells reports Memory status err err_after faults faults_after
+pub told_memory : (reports : Bool) (status : ℕ) (err err_after : Option (List ℕ)) (faults faults_after : ℕ) → Announces false Memory status err err_after faults faults_after → Announces reports Memory status err err_after faults faults_after
 unfolding message
 told_memory reports status err err_after faults faults_after told = record {
   by_status = told.by_status;

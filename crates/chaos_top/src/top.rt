@@ -3,7 +3,7 @@ ghost use Rattle.std.specs.Prelude.{◌≡◌, ◌+◌, ◌^◌, ◌≤◌, Some
 ghost use Rattle.job_words.specs.Commands.{command_of, engines_of};
 ghost use Rattle.round_loop.specs.Keeping.{moment};
 ghost use Rattle.endings.specs.declared.ending.Ending.{Ending};
-ghost use Rattle.endings.specs.Telling.{Tells};
+ghost use Rattle.endings.specs.Telling.{Announces};
 ghost use Rattle.run_model.specs.Calls.{IsReady};
 ghost use Rattle.chaos_top.specs.Outcome.{reports, IsOutcome};
 
@@ -54,7 +54,7 @@ pub fn chaos<R: Threads + Sync, S: Source, K: Sink, E: Sink, D: Disk, G: Gate + 
           before = moment store.old meters.old.items seat.old.view (beat.old + 1);
           after = moment store.new meters.new.items seat.new.view beat.new;
         }) (command_of (map string_bytes words.now)) ending
-        × Tells (reports (command_of (map string_bytes words.now))) ending result (E.written err.old) (E.written err.new) (E.faults err.old) (E.faults err.new) }
+        × Announces (reports (command_of (map string_bytes words.now))) ending result (E.written err.old) (E.written err.new) (E.faults err.old) (E.faults err.new) }
 {
     beat.next();
     match job_of(alloc, words) {
@@ -71,7 +71,7 @@ pub fn chaos<R: Threads + Sync, S: Source, K: Sink, E: Sink, D: Disk, G: Gate + 
 
 /// Tells of an ending, and answers its status.
 fn told<E: Sink>(ending: &Ending, reports: bool, err: &mut E) -> u8
-    ensures { Tells reports ending.now result (E.written err.old) (E.written err.new) (E.faults err.old) (E.faults err.new) }
+    ensures { Announces reports ending.now result (E.written err.old) (E.written err.new) (E.faults err.old) (E.faults err.new) }
 {
     tell(ending, reports, err);
     ending.status()

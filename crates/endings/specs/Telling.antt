@@ -12,6 +12,6 @@ pub record Says (reports : Bool) (ending : Ending) (err err_after : Option (List
   pub front : AsTold (AppendsFront (message reports ending)) err err_after
 
 -- **The status of the ending, and on `err` its message**, with its report if reports are told
-pub record Tells (reports : Bool) (ending : Ending) (status : ℕ) (err err_after : Option (List ℕ)) (faults faults_after : ℕ) : Type 0 where
+pub record Announces (reports : Bool) (ending : Ending) (status : ℕ) (err err_after : Option (List ℕ)) (faults faults_after : ℕ) : Type 0 where
   pub by_status : status ≡ status_of ending
   pub by_message : Says reports ending err err_after faults faults_after

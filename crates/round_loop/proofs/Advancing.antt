@@ -19,10 +19,11 @@ use Rattle.store_reader.specs.declared.store.Outcome.{Outcome}
 use Rattle.store_reader.specs.declared.store.Outcome.TheVariants.{Done, DiskFault}
 use Rattle.phase_model.specs.JobTerms.{terms_of}
 use Rattle.round_steps.specs.Epochs.{IsWhole, HasFewChunks, ForRound}
-use Rattle.round_steps.specs.Going.{IsStore, KeepsStore, SomeRose, RowsTell}
+use Rattle.round_steps.specs.Going.{IsStore, KeepsStore, SomeRose}
 use Rattle.round_steps.specs.Standing.{IsSound, HaveEdges, HasEdges, StandsBefore, IsBefore}
 use Rattle.round_steps.specs.Rounds.{StoresRound, MakesEpochs, earlier_values}
 use Rattle.epoch_laws.specs.Phases.{Opens, updates_of, sending_in}
+use Rattle.scatter_epoch.specs.Sent.{RowsTell}
 use Rattle.round_loop.specs.declared.run.Start.{Start}
 use Rattle.round_loop.specs.declared.run.Start.TheVariants.{Fresh, At}
 use Rattle.round_loop.specs.Starts.{first_made, first_sent, counts_first, IsDue}

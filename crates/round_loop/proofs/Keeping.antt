@@ -7,8 +7,9 @@ use Rattle.ports.specs.Devices.{OneRose, MetersGoOn}
 use Rattle.store_reader.specs.declared.store.Store.{Store}
 use Rattle.update_lanes.specs.Lanes.{GoOn}
 use Rattle.partitioner.specs.declared.split.Split.{Split}
-use Rattle.round_steps.specs.Going.{Tell, RowsTell, KeepsStore, SomeRose}
+use Rattle.round_steps.specs.Going.{Tell, KeepsStore, SomeRose}
 use Rattle.scatter_epoch.specs.Scattering.{RowsGoOn}
+use Rattle.scatter_epoch.specs.Sent.{RowsTell}
 use Rattle.round_loop.specs.Keeping.{AreLater, AreLaterRows, Keeps, IsTold}
 
 module _ {D : Type 0} (state : D → DiskState) where

@@ -4,7 +4,8 @@ use Rattle.std.specs.Global.{Global}
 use Rattle.ports.specs.Disk.{DiskState}
 use Rattle.chunk_cursor.specs.declared.view.View.{View}
 use Rattle.store_reader.specs.declared.store.Store.{Store}
-use Rattle.round_steps.specs.Going.{Tell, RowsTell}
+use Rattle.round_steps.specs.Going.{Tell}
+use Rattle.scatter_epoch.specs.Sent.{RowsTell}
 
 module _ {D : Type 0} (state : D → DiskState) where
   -- devices after some calls, each in its place: no count of faults falls, and what tells its bytes still does

@@ -25,8 +25,9 @@ use Rattle.epoch_seats.specs.Made.{HasMadeEpoch}
 use Rattle.epoch_laws.specs.Phases.{MaySend, Opens, edge_shelf, gathered, merged_over, sending_in, updates_of}
 use Rattle.apply_round.specs.Made.{made}
 use Rattle.scatter_epoch.specs.Scattering.{RowsGoOn}
+use Rattle.scatter_epoch.specs.Sent.{RowsTell}
 use Rattle.round_steps.specs.Epochs.{IsWhole, HasFewChunks}
-use Rattle.round_steps.specs.Going.{Tell, RowsTell}
+use Rattle.round_steps.specs.Going.{Tell}
 use Rattle.round_steps.specs.Standing.{IsBefore}
 use Rattle.round_steps.specs.Rounds.{MakesEpochs, HasSums, earlier_values}
 use Rattle.round_steps.specs.Updates.{HasSent, Stand, IsIdle, Gathers}

@@ -34,9 +34,6 @@ module _ {D : Type 0} (state : D → DiskState) where
   abbrev pub Tell : List D → Type 0
   Tell devices = (e : ℕ) (d : D) → e < length devices → (bytes : List ℕ) × ((state (slice_index_or devices e d)).bytes ≡ Some bytes)
 
-  abbrev pub RowsTell : List (Vec D Global) → Type 0
-  RowsTell rows = (w : ℕ) (row : Vec D Global) → w < length rows → Tell (slice_index_or rows w row).items
-
   -- the count of one lane rose
   abbrev pub RowRose : (old new : List (Vec D Global)) → Type 0
   RowRose old new = (w : ℕ) × (w < length old) × ((row : Vec D Global) → OneRose state (slice_index_or old w row).items (slice_index_or new w row).items)

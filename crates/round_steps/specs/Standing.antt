@@ -21,7 +21,8 @@ use Rattle.store_reader.specs.declared.store.Outcome.{Outcome}
 use Rattle.store_reader.specs.declared.store.Outcome.TheVariants.{Done, DiskFault, Damaged, Memory}
 use Rattle.epoch_laws.specs.Phases.{edge_shelf}
 use Rattle.apply_round.specs.Made.{share_of}
-use Rattle.round_steps.specs.Going.{Tell, RowsTell}
+use Rattle.scatter_epoch.specs.Sent.{RowsTell}
+use Rattle.round_steps.specs.Going.{Tell}
 
 -- no damage was found
 abbrev pub IsSound : Outcome → Type 0

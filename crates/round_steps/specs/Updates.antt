@@ -19,10 +19,10 @@ use Rattle.replica_merge.specs.declared.replicas.Replicas.{Replicas}
 use Rattle.store_reader.specs.declared.serving.Serving.{Serving}
 use Rattle.store_reader.specs.Indexed.{IsServing, HasRecords, lens_of}
 use Rattle.epoch_seats.specs.Made.{HasMadeEpoch}
-use Rattle.scatter_epoch.specs.Sent.{IsOfRows}
+use Rattle.scatter_epoch.specs.Sent.{IsOfRows, RowsTell}
 use Rattle.epoch_laws.specs.Phases.{gathered, merged_over, sending_in, updates_of}
 use Rattle.apply_round.specs.Made.{AreMerged}
-use Rattle.round_steps.specs.Going.{Tell, RowsTell}
+use Rattle.round_steps.specs.Going.{Tell}
 use Rattle.round_steps.specs.Standing.{HasEdges, ValuesStand}
 use Rattle.round_steps.specs.Rounds.{earlier_values}
 

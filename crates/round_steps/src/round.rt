@@ -7,8 +7,9 @@ ghost use Rattle.chunk_object.specs.History.{most_chunks};
 ghost use Rattle.store_reader.specs.Indexed.{lens_of};
 ghost use Rattle.epoch_seats.specs.Between.{IsBetweenEpochs};
 ghost use Rattle.ports.specs.Devices.{MetersGoOn};
+ghost use Rattle.scatter_epoch.specs.Sent.{RowsTell};
 ghost use Rattle.round_steps.specs.Crews.{AreCrews};
-ghost use Rattle.round_steps.specs.Going.{IsStore, KeepsStore, SomeRose, RowsTell};
+ghost use Rattle.round_steps.specs.Going.{IsStore, KeepsStore, SomeRose};
 ghost use Rattle.round_steps.specs.Standing.{IsSound, HaveEdges, IsBefore};
 ghost use Rattle.round_steps.specs.Rounds.{StoresRound, MakesEpochs};
 

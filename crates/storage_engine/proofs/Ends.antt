@@ -137,7 +137,6 @@ prepared_first state job text left number read graphs graphs' values values' fau
   made = tt;
   later_graphs = later_steps state IsShutGraph number job.engines graphs graphs' many steps;
   later_values = later_steps state Anything number job.engines values values' many' steps';
-  accepted = tt;
   whole = tt;
   indexed = tt;
   all_read = λ now. absurd (omega (arith, now));
@@ -169,7 +168,6 @@ prepared_second state job text left number read graphs mids graphs' values value
       made = (es, made);
       later_graphs = later_opens state IsShutGraph number (number + 1) job.engines graphs mids graphs' many steps opens;
       later_values = later_steps state Anything number job.engines values values' many' steps';
-      accepted = read_as_promised job text left es read_all;
       whole = made_graphs state job text left es index graphs' read_all made;
       indexed = places_as_promised job text left es index read_all flushed.places;
       all_read = λ now. read_as_promised job text left es read_all;
@@ -200,7 +198,6 @@ prepared_opening_failed state job text left number read graphs mids graphs' valu
       made = tt;
       later_graphs = later_opens state IsShutGraph number (number + 1) job.engines graphs mids graphs' many steps opens;
       later_values = later_steps state Anything number job.engines values values' many' steps';
-      accepted = tt;
       whole = tt;
       indexed = tt;
       all_read = λ now. read_as_promised job text left es read_all;

@@ -102,10 +102,9 @@ pub record Prepares {X : Type 0} (state : X → DiskState) (job : Job) (text lef
   pub later_graphs : (e : ℕ) (d : X) → e < job.engines → IsLater (state (slice_index_or graphs e d)) (state (slice_index_or graphs' e d))
   pub later_values : (e : ℕ) (d : X) → e < job.engines → IsLater (state (slice_index_or values e d)) (state (slice_index_or values' e d))
   -- of the text, where the source tells it
-  pub accepted : OnOk result (IfSome text (λ told. IsAccepted job told × (left ≡ Some [])))
   pub whole : OnOk result (IfSome text (λ told. (e : ℕ) (d : X) → e < job.engines → IsMadeGraph job told e (state (slice_index_or graphs' e d))))
   pub indexed : IfOk result (λ index. IfSome text (λ told. HasPlaces job (edge_chunks job (edges job told)) index))
-  -- in the second beat all of it was read, also where an opening of a gate then failed
+  -- it was accepted and all of it read, where the second beat began, as after Ok, even if the opening of a gate then failed
   pub all_read : now ≡ number + 1 → IfSome text (λ told. IsAccepted job told × (left ≡ Some []))
   -- what a stop leaves, at any moment
   pub any_moment : (e : ℕ) (d : X) → e < job.engines → LeavesByBeat (state (slice_index_or graphs e d)) (state (slice_index_or graphs' e d))

@@ -83,7 +83,7 @@ module _ {D M : Type 0} (state : D → DiskState) (lawful : (d : D) → IsDisk (
   first_on = store_made state job call.text call.text_after call.before.beat now read call.before.store new (Ok index) prepares lanes spills call.before.meters call.before.seat ready
 
   accepted : OfText call.text (λ told. IsAccepted job told × (call.text_after ≡ Some []))
-  accepted = of_some call.text (λ told. IsAccepted job told × (call.text_after ≡ Some [])) prepares.accepted
+  accepted = of_some call.text (λ told. IsAccepted job told × (call.text_after ≡ Some [])) (prepares.all_read prepares.second)
 
   whole_made : (told : List ℕ) → call.text ≡ Some told → IsMadeStore state job (edges job told) now new.graphs.items new.values.items
   whole_made told is = subst (λ (given : List Edge). IsMadeStore state job given now new.graphs.items new.values.items)

@@ -3,7 +3,7 @@ use Rattle.std.proofs.Common.{◌≡◌, ◌+◌, ◌≤◌, Option, None, map, 
 use Rattle.std.specs.Prelude.{string_bytes}
 use Rattle.job_words.specs.Commands.{command_of, engines_of}
 use Rattle.job_words.specs.declared.command.Command.{Command}
-use Rattle.endings.specs.Telling.{Tells}
+use Rattle.endings.specs.Telling.{Announces}
 use Rattle.endings.specs.declared.ending.Ending.TheVariants.{Usage, Memory}
 use Rattle.chaos_top.specs.Outcome.{reports}
 use Rattle.chaos_top.proofs.NoMemory.{outcome_without_memory, outcome_of_refused, ready_later, told_memory}
@@ -18,7 +18,7 @@ returns-in-Err-Usage-clause-outcome g c =
       Usage,
       outcome_of_refused g.D.Disk.state disks.lawful g.D.M.Meter.faults (g.S.Source.left c.args.source.now) (g.K.Sink.written c.args.out.now) (g.S.Source.faults c.args.source.now) (g.K.Sink.faults c.args.out.now)
           c.args.store.now c.args.meters.now.items c.args.seat.now.view (c.args.beat.now + 1) command c.next.new.self c.next.ensures none,
-      subst (λ (it : Option Command). Tells (reports it) Usage told.result (g.E.Sink.written c.args.err.now) (g.E.Sink.written told.new.err) (g.E.Sink.faults c.args.err.now) (g.E.Sink.faults told.new.err)) (sym none) told.ensures,
+      subst (λ (it : Option Command). Announces (reports it) Usage told.result (g.E.Sink.written c.args.err.now) (g.E.Sink.written told.new.err) (g.E.Sink.faults c.args.err.now) (g.E.Sink.faults told.new.err)) (sym none) told.ensures,
     )
 
 pub returns-in-Err-Memory-clause-outcome : goal.returns-in-Err-Memory-clause-outcome
