@@ -67,7 +67,7 @@ returns-in-Damaged g c =
       call = record { place = served.0; call = served.1.call; may = served.1.given };
       at = λ ne. absurd (ne refl);
       stopped = λ e. record {
-        why = (ap part_of (sym c.requires.kind), λ items takes. refuses_updates g.D.Disk.state c.args.context.now.serving c.args.engine c.args.partition served.0 tiny few c.requires.may.engine_is below (omega (arith, is_of.place)) c.args.context.now.counting c.requires.kind items takes _ _ c.requires.may.at.room.updates served.2);
+        why = ((ap part_of (sym c.requires.kind), record { partition = c.args.partition; t = served.0; engine_is = c.requires.may.engine_is; partition_is = below; within = omega (arith, is_of.place); at = served.2.named }), λ items takes. refuses_updates g.D.Disk.state c.args.context.now.serving c.args.engine c.args.partition served.0 tiny few c.requires.may.engine_is below (omega (arith, is_of.place)) c.args.context.now.counting c.requires.kind items takes _ _ c.requires.may.at.room.updates served.2);
         in_time = c.requires.may.at.at.in_time;
       };
     }
