@@ -1,9 +1,9 @@
 // The merge over all workers.
-ghost use Rattle.std.specs.Prelude.{◌≡◌, ℕ, ◌+◌, ◌*◌, ◌<◌, ◌≤◌, List, All, map, length, replicate, OnOk, slice_index_or};
+ghost use Rattle.std.specs.Prelude.{◌≡◌, ℕ, ◌+◌, ◌*◌, ◌<◌, ◌≤◌, List, All, None, IsOk, map, length, replicate, OnOk, slice_index_or};
 ghost use Rattle.ports.specs.Bytes.{bytes_at};
 ghost use Rattle.ports.specs.Faults.{HasCause};
 ghost use Rattle.replica_merge.specs.declared.replicas.Replicas.{Replicas};
-ghost use Rattle.replica_merge.specs.Accumulators.{split_of, len_of, accumulators_of, LiesWithin};
+ghost use Rattle.replica_merge.specs.Accumulators.{split_of, len_of, place_of, accumulators_of, LiesWithin};
 ghost use Rattle.replica_merge.specs.Merging.{MergesAll, MergesOne, MergesFrom};
 ghost use Rattle.replica_merge.specs.Numbers.{numbers_at};
 
@@ -33,6 +33,7 @@ pub fn merge_replicas<P: VertexProgram, D: Disk>(
     requires disks { length disks.now ≡ length replicas.now }
     requires within { (w : ℕ) (r : Replicas) (d : D) → w < length replicas.now → LiesWithin (slice_index_or replicas.now w r) (D.state (slice_index_or disks.now w d)).size }
     ensures merged { OnOk result ((devices : List (List ℕ)) → map (λ d. (D.state d).bytes) disks.now ≡ map (λ device. Some device) devices → MergesAll (P.rules program.now) replicas.now devices partition into.new) }
+    ensures unread { All (λ r. place_of r partition ≡ None) replicas.now → (meter.new ≡ meter.old) × IsOk result }
     ensures cause { HasCause (D.M.faults meter.old) (D.M.faults meter.new) result }
 {
     let _of = split;
@@ -66,6 +67,7 @@ fn merge_worker<P: VertexProgram, D: Disk>(
     requires bytes { 8 ≤ length bytes.old }
     requires within { LiesWithin replicas.now (D.state disk.now).size }
     ensures merged { OnOk result ((device : List ℕ) → (D.state disk.now).bytes ≡ Some device → MergesOne (P.rules program.now) (accumulators_of replicas.now device partition) into.old into.new) }
+    ensures unread { place_of replicas.now partition ≡ None → (meter.new ≡ meter.old) × IsOk result }
     ensures cause { HasCause (D.M.faults meter.old) (D.M.faults meter.new) result }
 {
     match replicas.place(partition) {

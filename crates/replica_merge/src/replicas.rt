@@ -38,6 +38,7 @@ impl Replicas {
         ensures split { IfOk result (λ replicas. split_of replicas ≡ split.now) }
         ensures unit { IfOk result (λ replicas. unit_of replicas ≡ unit) }
         ensures unspilled { IfOk result (λ replicas. IsUnspilled replicas) }
+        ensures begun { IfOk result (λ replicas. (begun_of replicas ≡ 0) × (sums_of replicas ≡ replicate (len_of split.now 0) unit)) }
     {
         let mut sums = Vec::with_capacity(alloc, split.span as usize)?;
         let places = vec![in alloc; None; split.parts as usize]?;

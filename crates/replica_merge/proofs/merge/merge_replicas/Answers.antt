@@ -1,9 +1,11 @@
 -- A worker more, and all workers.
-use Rattle.std.proofs.Common.{◌≡◌, ℕ, ◌<◌, List, [], length, take, get_or, ◌∙◌, ap, arith}
+use Rattle.std.proofs.Common.{◌≡◌, ℕ, ◌<◌, List, None, [], length, take, get_or, ◌∙◌, ap, arith}
 use Rattle.std.proofs.lemmas.List.{take_all}
+use Rattle.std.proofs.lemmas.List.Elements.{All-get_or}
+use Rattle.replica_merge.specs.declared.replicas.Replicas.{Replicas}
 use Rattle.graph_model.specs.Rounds.{merged}
 use Rattle.graph_model.specs.Programs.{Rules}
-use Rattle.replica_merge.specs.Accumulators.{accumulators_of}
+use Rattle.replica_merge.specs.Accumulators.{accumulators_of, place_of}
 use Rattle.replica_merge.specs.Merging.{sums_for}
 use Rattle.replica_merge.proofs.MergeSteps.{merged_worker, told_at, length-told}
 use Rattle.replica_merge.proofs.merge.merge_replicas.Goals as goal
@@ -24,6 +26,10 @@ loop-worker-preserved g c = record {
       ∙ told_at (λ d. (g.D.Disk.state d).bytes) c.args.disks.now devices w c.index-disks-worker.result told (omega (arith, c.requires.disks)))
       v here
       ∙ ap (λ r. rules.merge (get_or c.loop-worker.into v 0) (get_or (accumulators_of r device c.args.partition) v 0)) c.index-replicas-worker.is);
+  unread = λ none.
+      (c.in_ok-merge_worker.ensures.unread (ap (λ r. place_of r c.args.partition) c.index-replicas-worker.is
+      ∙ All-get_or (λ (r : Replicas). place_of r c.args.partition ≡ None) c.args.replicas.now c.loop-worker.worker c.index-replicas-worker.result (omega arith) none)).0
+      ∙ c.loop-worker.invariant.unread none;
   later = omega (arith, c.in_ok-merge_worker.ensures.cause.later);
 }
 
