@@ -1,5 +1,5 @@
 -- What a gather phase says of the desks of its workers.
-use Rattle.std.specs.Prelude.{◌≡◌, ◌⊎◌, ℕ, ◌<◌, ◌≤◌, Bool, true, false, if◌then◌else◌, Some, List, length}
+use Rattle.std.specs.Prelude.{◌≡◌, ◌⊎◌, ℕ, ◌≤◌, Bool, true, false, if◌then◌else◌, Some, List}
 use Rattle.graph_model.specs.declared.edge.Edge.{Edge}
 use Rattle.graph_model.specs.declared.value.Update.{Update}
 use Rattle.graph_model.specs.declared.job.Job.{Job}
@@ -13,8 +13,7 @@ use Rattle.store_reader.specs.declared.store.Part.{Part}
 use Rattle.store_reader.specs.declared.store.Part.TheVariants.{Graph, Lane}
 use Rattle.store_reader.specs.declared.serving.Serving.{Serving}
 use Rattle.store_reader.specs.Indexed.{lens_of, HasRecords}
-use Rattle.store_reader.specs.Serving.{place_at}
-use Rattle.chunk_file.specs.Places.{places_of}
+use Rattle.store_reader.specs.Serving.{IsRefusedChunk}
 use Rattle.phase_model.specs.Sums.{counts_of}
 use Rattle.gather_phase.specs.declared.desk.GatherContext.{GatherContext}
 use Rattle.gather_phase.specs.declared.desk.GatherDesk.{GatherDesk}
@@ -27,14 +26,10 @@ abbrev pub part_of : Bool → Part
 part_of true = Graph
 part_of false = Lane
 
--- a chunk of the index stands on this engine at this place
-pub record IsPlaceOfChunk {D M : Type 0} (serving : Serving D M) (engine place : ℕ) : Type 0 where
-  pub partition : ℕ
-  pub t : ℕ
-  pub engine_is : engine < serving.job.now.engines
-  pub partition_is : partition < serving.split.now.parts
-  pub within : t < length (places_of serving.index.now engine partition)
-  pub at : place ≡ (place_at serving.index.now engine partition t).at
+-- a chunk of the index is refused on this engine, at this place
+abbrev pub IsRefused : {D M : Type 0} → (D → DiskState) → Bool → Serving D M → (engine place : ℕ) → Type 0
+IsRefused state true serving engine place = IsRefusedChunk state (edge_layout serving.job.now.format) serving serving.job.now.chunk engine place
+IsRefused state false serving engine place = IsRefusedChunk state update_layout serving serving.job.now.chunk engine place
 
 module _ {D M : Type 0} (state : D → DiskState) where
   -- what is taken from each chunk: its updates, or 1 for each of its edges at the source
@@ -71,11 +66,12 @@ module _ {P D G M : Type 0} (rules : P → Rules) (state : D → DiskState) wher
     pub room : IsRoom c.serving.job.now desk.room
     pub done : desk.outcome ≡ Done
 
-  -- why the work may be stopped: damage is told of a chunk of the index, and is found only where not all chunks stand on devices that tell their bytes
+  -- why the work may be stopped: damage is that of a chunk of the index, and is found only where not all
+  -- chunks stand on devices that tell their bytes
   abbrev pub MayStopBy : GatherContext P D G M → Outcome → Type 0
   MayStopBy c Done = ⊥
   MayStopBy c DiskFault = Unit {0}
-  MayStopBy c (Damaged part engine place) = ((part ≡ part_of c.counting) × IsPlaceOfChunk c.serving engine place) × ((items : ℕ → ℕ → List Update) → Takes state c.counting c.serving items → ⊥)
+  MayStopBy c (Damaged part engine place) = ((part ≡ part_of c.counting) × IsRefused state c.counting c.serving engine place) × ((items : ℕ → ℕ → List Update) → Takes state c.counting c.serving items → ⊥)
   MayStopBy c Memory = ⊥
 
   pub record DeskStops (c : GatherContext P D G M) (desk : GatherDesk D M) (chunks : List (ℕ × ℕ)) : Type 0 where

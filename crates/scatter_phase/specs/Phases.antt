@@ -19,6 +19,7 @@ use Rattle.store_reader.specs.declared.store.Outcome.TheVariants.{Done, DiskFaul
 use Rattle.store_reader.specs.declared.store.Part.TheVariants.{Graph}
 use Rattle.store_reader.specs.Indexed.{HasRecords}
 use Rattle.store_reader.specs.Reading.{len_in}
+use Rattle.store_reader.specs.Serving.{IsRefusedChunk}
 use Rattle.update_lanes.specs.Lanes.{AreReady, GoOn, IsWithin}
 use Rattle.update_lanes.specs.Outgoing.{HasSent, NoneFull}
 use Rattle.update_lanes.specs.Sending.{AreChanges}
@@ -87,11 +88,12 @@ module _ {P D G M : Type 0} (rules : P → Rules) (state : D → DiskState) (c :
     pub fit : IsOpen desk
     pub has : HasSentOf desk chunks
 
-  -- why the work may be stopped: damage is found only where not all chunks stand on devices that tell their bytes
+  -- why the work may be stopped: damage is that of a chunk of the index, and is found only where not all chunks stand on
+  -- devices that tell their bytes
   abbrev pub MayStopBy : Outcome → Type 0
   MayStopBy Done = ⊥
   MayStopBy DiskFault = ⊤
-  MayStopBy (Damaged part engine place) = (part ≡ Graph) × ((records : ℕ → ℕ → List Edge) → HasRecords state (edge_layout c.serving.job.now.format) c.serving records → ⊥)
+  MayStopBy (Damaged part engine place) = ((part ≡ Graph) × IsRefusedChunk state (edge_layout c.serving.job.now.format) c.serving c.serving.job.now.chunk engine place) × ((records : ℕ → ℕ → List Edge) → HasRecords state (edge_layout c.serving.job.now.format) c.serving records → ⊥)
   MayStopBy Memory = ⊤
 
   pub record DeskStops (desk : ScatterDesk D M) (chunks : List (ℕ × ℕ)) : Type 0 where

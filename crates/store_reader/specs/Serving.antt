@@ -14,6 +14,7 @@ use Rattle.chunk_file.specs.declared.index.Place.{Place}
 use Rattle.chunk_file.specs.Chunks.{AreChunkIn, IsChunkIn, NoChunkIn}
 use Rattle.chunk_file.specs.Places.{places_of, on_graph}
 use Rattle.store_reader.specs.declared.serving.Served.{Served}
+use Rattle.store_reader.specs.declared.serving.Serving.{Serving}
 use Rattle.store_reader.specs.declared.serving.Served.TheVariants.{Chunk, Exhausted, DiskFault, Damaged}
 use Rattle.store_reader.specs.declared.serving.Shelf.{Shelf}
 use Rattle.store_reader.specs.declared.serving.Shelf.TheVariants.{Graphs, Lanes}
@@ -57,6 +58,17 @@ pub record ReadsAt {X : Type 0} (layout : Layout X) (split : Split) (partition :
 pub record RefusesAt {X : Type 0} (layout : Layout X) (split : Split) (partition : ℕ) (place : Place) (told : Option (List ℕ)) (most at : ℕ) : Type 0 where
   pub named : at ≡ place.at
   pub none : IfSome told (NoChunkIn layout split most partition place.at)
+
+-- **A chunk of the index is refused**: it has its place on this engine at this byte, and where the device tells its bytes no
+-- chunk of at most so many records stands there.
+pub record IsRefusedChunk {D M X : Type 0} (state : D → DiskState) (layout : Layout X) (serving : Serving D M) (most engine at : ℕ) : Type 0 where
+  pub partition : ℕ
+  pub t : ℕ
+  pub engine_is : engine < serving.job.now.engines
+  pub partition_is : partition < serving.split.now.parts
+  pub there : t < length (places_of serving.index.now engine partition)
+  pub refuses : RefusesAt layout serving.split.now partition (place_at serving.index.now engine partition t)
+      (told_at state serving.shelf engine (place_at serving.index.now engine partition t).lane) most at
 
 -- What each answer says: of the claim, and of the chunk that was taken.
 abbrev pub HasServed : (claims : Claim → Type 0) (reads : (t count : ℕ) → Type 0) (rose : Type 0) (refuses : (t at : ℕ) → Type 0) → Served → Type 0

@@ -1,10 +1,12 @@
-use Rattle.std.proofs.Common.{◌≡◌, ◌^◌, ◌<◌, Bool, cond, length, take, inl, inr, refl, ap, sym, ◌∙◌, arith}
+use Rattle.std.proofs.Common.{◌≡◌, ◌^◌, ◌<◌, Bool, cond, length, take, inl, inr, refl, ap, sym, ◌∙◌, subst, arith}
 use Rattle.graph_model.specs.Programs.{plus}
 use Rattle.chunk_object.specs.Epochs.{cursor_of}
 use Rattle.phase_model.specs.Sums.{counts_of}
 use Rattle.replica_merge.specs.Accumulators.{sums_of, len_of}
-use Rattle.gather_phase.specs.Phases.{Takes, part_of, adding_of}
+use Rattle.chunk_model.specs.Layout.{edge_layout}
+use Rattle.gather_phase.specs.Phases.{Takes, IsRefused, part_of, adding_of}
 use Rattle.store_reader.specs.Indexed.{lens_of}
+use Rattle.store_reader.specs.Serving.{told_at, place_at, RefusesAt, IsRefusedChunk}
 use Rattle.gather_phase.proofs.Reading.{edges_within, takes_edges, refuses_edges}
 use Rattle.gather_phase.proofs.Serving.{met_none, come_begun, come_split, come_stays, met_more, taken_of, long_sums}
 use Rattle.gather_phase.proofs.chunk.serve_edges.Goals as goal
@@ -62,13 +64,22 @@ returns-in-Damaged g c =
     let tiny : c.args.partition < 2 ^ 32 = omega arith in
     let few : c.args.context.now.serving.job.now.chunk < 2 ^ 32 = omega (arith, job.chunk.1) in
     let is_of = taken_of c.args.context.now.serving.job.now.engines c.args.context.now.serving.split.now.parts (lens_of c.args.context.now.serving.index.now) _ c.args.engine c.args.partition served.0 small c.requires.may.engine_is below c.requires.may.ready served.1.given in
+    let refused : IsRefusedChunk g.D.Disk.state (edge_layout c.args.context.now.serving.job.now.format) c.args.context.now.serving c.args.context.now.serving.job.now.chunk c.args.engine c.in-Damaged.place = record {
+      partition = c.args.partition;
+      t = served.0;
+      engine_is = c.requires.may.engine_is;
+      partition_is = below;
+      there = omega (arith, is_of.place);
+      refuses = subst (λ most. RefusesAt (edge_layout c.args.context.now.serving.job.now.format) c.args.context.now.serving.split.now c.args.partition (place_at c.args.context.now.serving.index.now c.args.engine c.args.partition served.0)
+          (told_at g.D.Disk.state c.args.context.now.serving.shelf c.args.engine (place_at c.args.context.now.serving.index.now c.args.engine c.args.partition served.0).lane) most c.in-Damaged.place) c.requires.may.at.room.edges served.2;
+    } in
     record {
       goes_on = record { worker = refl; split = refl; room = λ job is. record { updates = is.updates; edges = c.in-Damaged.ensures.rooms.1 ∙ is.edges; bytes = c.in-Damaged.ensures.rooms.0 ∙ is.bytes }; reads = c.in-Damaged.ensures.later; writes = omega arith; told = λ bytes is. (bytes, is); caused = λ is. absurd cc };
       table_is = c.in-Damaged.ensures.table;
       call = record { place = served.0; call = served.1.call; may = served.1.given };
       at = λ ne. absurd (ne refl);
       stopped = λ e. record {
-        why = ((ap part_of (sym c.requires.kind), record { partition = c.args.partition; t = served.0; engine_is = c.requires.may.engine_is; partition_is = below; within = omega (arith, is_of.place); at = served.2.named }), λ items takes. refuses_edges g.D.Disk.state c.args.context.now.serving c.args.engine c.args.partition served.0 tiny few c.requires.may.engine_is below (omega (arith, is_of.place)) c.args.context.now.counting c.requires.kind items takes _ _ c.requires.may.at.room.edges served.2);
+        why = ((ap part_of (sym c.requires.kind), subst (λ b. IsRefused g.D.Disk.state b c.args.context.now.serving c.args.engine c.in-Damaged.place) (sym c.requires.kind) refused), λ items takes. refuses_edges g.D.Disk.state c.args.context.now.serving c.args.engine c.args.partition served.0 tiny few c.requires.may.engine_is below (omega (arith, is_of.place)) c.args.context.now.counting c.requires.kind items takes _ _ c.requires.may.at.room.edges served.2);
         in_time = c.requires.may.at.at.in_time;
       };
     }

@@ -3,6 +3,7 @@ use Rattle.chunk_object.specs.Epochs.{cursor_of}
 use Rattle.graph_model.specs.declared.edge.Edge.{Edge}
 use Rattle.chunk_model.specs.Layout.{edge_layout}
 use Rattle.store_reader.specs.Indexed.{lens_of, HasRecords}
+use Rattle.store_reader.specs.Serving.{told_at, place_at, RefusesAt, IsRefusedChunk}
 use Rattle.update_lanes.proofs.GoingOn.{stays}
 use Rattle.worker_duty.specs.Views.{taken_by_seat}
 use Rattle.worker_duty.proofs.Cursors.{taken_here-more, taken_here-none}
@@ -86,6 +87,15 @@ returns-in-Damaged g c =
     let tiny : c.args.partition < 2 ^ 32 = omega (arith, c.requires.may.partition_is, job.few_parts) in
     let few : c.args.context.now.serving.job.now.chunk < 2 ^ 32 = omega (arith, job.chunk.1) in
     let there = taken_of (lens_of c.args.context.now.serving.index.now) c.args.desk.now.seat.view (cursor_of c.args.engine c.args.partition) served.0 c.requires.may.ready served.1.given in
+    let refused : IsRefusedChunk g.D.Disk.state (edge_layout c.args.context.now.serving.job.now.format) c.args.context.now.serving c.args.context.now.serving.job.now.chunk c.args.engine c.in-Damaged.place = record {
+      partition = c.args.partition;
+      t = served.0;
+      engine_is = c.requires.may.engine_is;
+      partition_is = below;
+      there = there;
+      refuses = subst (λ most. RefusesAt (edge_layout c.args.context.now.serving.job.now.format) c.args.context.now.serving.split.now c.args.partition (place_at c.args.context.now.serving.index.now c.args.engine c.args.partition served.0)
+          (told_at g.D.Disk.state c.args.context.now.serving.shelf c.args.engine (place_at c.args.context.now.serving.index.now c.args.engine c.args.partition served.0).lane) most c.in-Damaged.place) c.requires.may.at.fit.room.edges served.2;
+    } in
     let at = c.requires.may.at in
     record {
       goes_on = record { worker = refl; room = λ job is. record { outgoing = is.outgoing; of_job = is.of_job; size = is.size; edges = c.in-Damaged.ensures.rooms.1 ∙ is.edges; bytes = c.in-Damaged.ensures.rooms.0 ∙ is.bytes; now = is.now; before = is.before; changed = is.changed }; reads = c.in-Damaged.ensures.later; lanes = stays g.D.Disk.state c.args.context.now.beat.now c.args.desk.now.lanes.items; caused = λ is. absurd cc };
@@ -93,7 +103,7 @@ returns-in-Damaged g c =
       call = record { place = served.0; call = served.1.call; may = served.1.given };
       at = λ ne. absurd (ne refl);
       stopped = λ e. record {
-        why = (refl, λ records describes. refuses_none g.D.Disk.state c.args.context.now.serving c.args.engine c.args.partition served.0 tiny few c.requires.may.engine_is below there records _ _ describes c.requires.may.at.fit.room.edges served.2);
+        why = ((refl, refused), λ records describes. refuses_none g.D.Disk.state c.args.context.now.serving c.args.engine c.args.partition served.0 tiny few c.requires.may.engine_is below there records _ _ describes c.requires.may.at.fit.room.edges served.2);
         within = at.fit.within;
         few =
             let most = places_of_chunks g.P.VertexProgram.rules g.D.Disk.state c.args.context.now c.args.desk.now _ job.chunk.0 at.has in
