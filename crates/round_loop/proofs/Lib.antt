@@ -2,9 +2,9 @@ mod Reaching
 pub mod SlotBytes
 mod Stopping
 mod Keeping
-mod Epochs
+pub mod Epochs
 mod Advancing
 mod Beginning
-mod Ending
+pub mod Ending
 mod Counting
 mod Steps
