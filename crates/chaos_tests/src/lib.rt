@@ -1,4 +1,5 @@
-//! Tests of the top call on devices in memory: rows of words and texts with what must be printed, calls in turn on one
+//! Tests of the top call on devices in memory: what lines of words at the borders mean, rows of words and texts with what
+//! must be printed, calls in turn on one
 //! store, stores of which a byte was changed, each call of the outside that fails, a stop at every moment of a call and once
 //! more in the resume, chunks placed by many seeds, a device that changes an edge between two rounds, and a large run beside
 //! the plain engine. It has no code of its own, promises nothing and touches disks in memory alone.
@@ -36,5 +37,7 @@ mod stores;
 mod stream_tests;
 #[cfg(test)]
 mod turn_tests;
+#[cfg(test)]
+mod word_tests;
 #[cfg(test)]
 mod world;

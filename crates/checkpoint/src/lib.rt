@@ -15,6 +15,3 @@ mod values;
 pub use apply::{ApplyContext, ApplyDesk, apply_work};
 pub use room::ApplyRoom;
 pub use slots::{close_slot, open_slot, write_set};
-
-#[cfg(test)]
-mod tests;

@@ -10,4 +10,4 @@ mod message;
 mod tests;
 
 pub use ending::{Ending, Report};
-pub use message::tell;
+pub use message::{MessageLine, append_number, tell};

@@ -12,7 +12,7 @@ use store_reader::Part;
 
 /// A message with its line feeds. The longest is the report of eight engines: with 20 digits for each number its lines have
 /// 28 + 8 * 56 + 28 + 30 bytes.
-pub(crate) type MessageLine = ArrayVec<u8, 534>;
+pub type MessageLine = ArrayVec<u8, 534>;
 
 const USAGE: &[u8] =
     b"usage: chaos_cli run|bench|resume|drop [bfs ROOT|labels|sssp ROOT|degrees|pagerank ROUNDS] [options]\n";
@@ -131,7 +131,8 @@ fn line_of_two(before: &[u8], first: u64, between: &[u8], second: u64, after: &[
     line
 }
 
-fn append_number(line: &mut MessageLine, before: &[u8], number: u64, after: &[u8])
+/// Appends a number in decimal to a line, with what stands before and after it.
+pub fn append_number(line: &mut MessageLine, before: &[u8], number: u64, after: &[u8])
     requires { array_vec_len line.old + length before.now + 20 + length after.now ≤ 534 }
     ensures items { line.new.items ≡ line.old.items ++ with_number before.now number after.now }
     ensures len { array_vec_len line.new ≤ array_vec_len line.old + length before.now + 20 + length after.now }

@@ -17,6 +17,3 @@ mod sums;
 
 pub use desk::{GatherContext, GatherDesk, GatherRoom};
 pub use gather::gather_work;
-
-#[cfg(test)]
-mod tests;

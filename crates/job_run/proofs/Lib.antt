@@ -1,3 +1,2 @@
 pub mod Meters
 pub mod Runs
-mod Made

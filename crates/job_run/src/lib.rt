@@ -9,8 +9,6 @@
 mod answer;
 mod finish;
 mod run;
-#[cfg(test)]
-mod tests;
 
 pub use finish::Finish;
 pub use run::run_job;

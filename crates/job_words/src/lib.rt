@@ -12,8 +12,6 @@ mod decimal;
 mod meaning;
 mod reader;
 mod tables;
-#[cfg(test)]
-mod tests;
 mod words;
 
 pub use command::{Command, WordFault};

@@ -17,7 +17,7 @@ use crate::reading::read_values;
 use crate::runs::run;
 use crate::scatters::{scatter, sent_by, sent_on};
 use chunk_file::Index;
-use engine_gate::OpenGate;
+use engine_gate::{MeetGate, OpenGate};
 use gather_laws::VertexProgram;
 use graph_model::{Edge, Job, Program};
 use partitioner::Split;
@@ -90,6 +90,7 @@ fn expect_sent<R: Threads + Abort + Sync, P: VertexProgram>(
         made,
         slot,
         other,
+        &OpenGate,
         &mut lanes,
         &mut updates,
     );
@@ -181,4 +182,37 @@ fn each_call_of_a_lane_fails_once(rt: HostRuntime) {
             expect_faults(&rt, rt.alloc(), row, worker, engine);
         }
     }
+}
+
+#[test]
+fn the_gate_is_passed_first(rt: HostRuntime) {
+    let alloc = rt.alloc();
+    let program = PageRank { rounds: 1 };
+    let job = job_of(Program::PageRank(1), 0);
+    let edges = edges_of(&rt, alloc, FAR, EDGES);
+    let made = made_to_round_one(&rt, alloc, &program, &job, &edges);
+    let fault = Fault {
+        called: Called::Lane,
+        worker: 0,
+        engine: 0,
+        number: 1,
+    };
+    let mut lanes = rows(&rt, alloc, job.engines, &fault);
+    let mut updates = Index::new(alloc).expect(&rt, "an index");
+    // The only worker waits in vain for another one, and cannot empty its lane then.
+    let gate = MeetGate::new(2, 10);
+    let outcome = scatter(
+        &rt,
+        alloc,
+        &program,
+        &job,
+        &made,
+        1,
+        None,
+        &gate,
+        &mut lanes,
+        &mut updates,
+    );
+    assert_eq!(&rt; outcome, Outcome::DiskFault);
+    assert!(&rt; gate.missed());
 }

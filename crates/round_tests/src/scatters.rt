@@ -13,12 +13,12 @@ use crate::faults::Fault;
 use crate::made::{Made, meters};
 use chunk_cursor::CursorTable;
 use chunk_file::{Index, Place, read_chunk};
-use engine_gate::OpenGate;
 use epoch_seats::new_seat_is_between_epochs;
 use gather_laws::{Value, VertexProgram};
 use graph_model::{Edge, Job, Update};
 use mem_devices::{MemDisk, MemMeter};
 use partitioner::Split;
+use ports::Gate;
 use scatter_epoch::{ScatterCrew, scatter_all};
 use scatter_phase::ScatterContext;
 use std::alloc::Global;
@@ -28,7 +28,7 @@ use store_reader::{Outcome, Serving, Shelf};
 
 /// One scatter epoch from the values in a slot; where there is one before, from those alone that differ there. All lanes
 /// and meters are in their places afterwards.
-pub(crate) fn scatter<'a, R: Threads + Abort + Sync, P: VertexProgram>(
+pub(crate) fn scatter<'a, R: Threads + Abort + Sync, P: VertexProgram, G: Gate + Sync>(
     rt: &R,
     alloc: Global,
     program: &'a P,
@@ -36,6 +36,7 @@ pub(crate) fn scatter<'a, R: Threads + Abort + Sync, P: VertexProgram>(
     made: &'a Made,
     slot: u32,
     before: Option<u32>,
+    gate: &'a G,
     lanes: &mut Vec<Vec<MemDisk>>,
     updates: &mut Index,
 ) -> Outcome
@@ -65,7 +66,7 @@ pub(crate) fn scatter<'a, R: Threads + Abort + Sync, P: VertexProgram>(
         slot,
         before,
         epoch: 0,
-        gate: &OpenGate,
+        gate,
         beat: &made.beat,
     };
     let scattered = scatter_all(

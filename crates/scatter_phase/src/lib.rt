@@ -16,8 +16,6 @@ mod empty;
 mod load;
 mod scatter;
 mod send;
-#[cfg(test)]
-mod tests;
 
 pub use desk::{ScatterContext, ScatterDesk, ScatterRoom};
 pub use phase_model::Placed;

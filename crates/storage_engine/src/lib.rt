@@ -14,8 +14,6 @@ mod fault;
 mod head;
 mod maker;
 mod preparing;
-#[cfg(test)]
-mod tests;
 mod text;
 mod waiting;
 mod writing;

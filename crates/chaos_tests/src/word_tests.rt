@@ -1,31 +1,23 @@
 // Command lines near the borders, some of them whole. The words of a line stand between single spaces, so that two spaces,
 // or one at an end, enclose an empty word.
-use super::*;
-use std::alloc::{AllocError, Global};
+use crate::call::words_of;
+use graph_model::{Job, Program};
+use job_words::{Command, WordFault, job_of, wanted};
+use std::alloc::Global;
 use std::process::Abort;
-use std::test::Fail;
+use std::test::*;
 
-fn words_of(alloc: Global, line: &str) -> Result<Vec<String>, AllocError> {
-    let mut words = Vec::new(alloc);
-    for word in line.split(' ') {
-        words.push(String::from_str(alloc, word)?)?;
-    }
-    Ok(words)
-}
-
-fn expect_command(rt: &impl Abort, alloc: Global, line: &str, wanted: Command) -> Result<(), Fail> {
-    let words = words_of(alloc, line)?;
+fn expect_command(rt: &impl Abort, alloc: Global, line: &str, wanted: Command) {
+    let words = words_of(rt, alloc, line);
     assert_eq!(rt; job_of(alloc, words.as_slice()), Ok(wanted), "{line}");
-    Ok(())
 }
 
-fn expect_each(rt: &impl Abort, alloc: Global, lines: &str, refused: bool) -> Result<(), Fail> {
+fn expect_each(rt: &impl Abort, alloc: Global, lines: &str, refused: bool) {
     for line in lines.lines() {
-        let words = words_of(alloc, line)?;
+        let words = words_of(rt, alloc, line);
         let command = job_of(alloc, words.as_slice());
         assert_eq!(rt; command == Err(WordFault::Usage), refused, "{line}");
     }
-    Ok(())
 }
 
 /// A job with the defaults.
@@ -45,7 +37,7 @@ fn plain_job(program: Program, vertices: u32) -> Job {
 }
 
 #[test]
-fn whole_commands(rt: HostRuntime) -> Result<(), Fail> {
+fn whole_commands(rt: HostRuntime) {
     let alloc = rt.alloc();
     let run =
         "--vertices 640 run --seed 18446744073709551615 sssp --alpha=0 --report 00 --most=10 --engines 8 --chunk 1 --limit 7";
@@ -58,7 +50,7 @@ fn whole_commands(rt: HostRuntime) -> Result<(), Fail> {
         limit: 7,
         ..plain_job(Program::Sssp(0), 640)
     };
-    expect_command(&rt, alloc, run, Command::Run { job, report: true })?;
+    expect_command(&rt, alloc, run, Command::Run { job, report: true });
     let bench = Command::Bench {
         job: plain_job(Program::PageRank(5), 4_194_304),
         scale: 22,
@@ -66,13 +58,13 @@ fn whole_commands(rt: HostRuntime) -> Result<(), Fail> {
         rng: 0,
     };
     let line = "bench pagerank 5 --scale 22 --edges 268435456 --rng 0";
-    expect_command(&rt, alloc, line, bench)?;
+    expect_command(&rt, alloc, line, bench);
     let resume = Command::Resume {
         engines: 2,
         report: true,
     };
-    expect_command(&rt, alloc, "resume --report --engines=2", resume)?;
-    expect_command(&rt, alloc, "drop", Command::Discard { engines: 1 })
+    expect_command(&rt, alloc, "resume --report --engines=2", resume);
+    expect_command(&rt, alloc, "drop", Command::Discard { engines: 1 });
 }
 
 static TAKEN: &str = "run bfs 3 --vertices 4
@@ -114,17 +106,16 @@ bench degrees --scale 23 --edges 3
 bench degrees --scale 3 --edges 5 --vertices 8";
 
 #[test]
-fn lines_at_the_borders(rt: HostRuntime) -> Result<(), Fail> {
-    expect_each(&rt, rt.alloc(), TAKEN, false)?;
-    expect_each(&rt, rt.alloc(), REFUSED, true)
+fn lines_at_the_borders(rt: HostRuntime) {
+    expect_each(&rt, rt.alloc(), TAKEN, false);
+    expect_each(&rt, rt.alloc(), REFUSED, true);
 }
 
 #[test]
-fn engines_wanted(rt: HostRuntime) -> Result<(), Fail> {
+fn engines_wanted(rt: HostRuntime) {
     let alloc = rt.alloc();
-    let words = words_of(alloc, "resume --engines 2")?;
-    assert_eq!(rt; wanted(alloc, words.as_slice()), Ok(2));
-    let words = words_of(alloc, "drop --engines 9")?;
-    assert_eq!(rt; wanted(alloc, words.as_slice()), Ok(0));
-    Ok(())
+    let words = words_of(&rt, alloc, "resume --engines 2");
+    assert_eq!(&rt; wanted(alloc, words.as_slice()), Ok(2));
+    let words = words_of(&rt, alloc, "drop --engines 9");
+    assert_eq!(&rt; wanted(alloc, words.as_slice()), Ok(0));
 }
