@@ -4,6 +4,7 @@ pub mod Through
 pub mod Counts
 pub mod Gathered
 pub mod Resetting
+pub mod Damage
 pub mod Begun
 pub mod Applied
 pub mod Holding

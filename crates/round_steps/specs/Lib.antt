@@ -4,3 +4,4 @@ pub mod Standing
 pub mod Epochs
 pub mod Rounds
 pub mod Updates
+pub mod Damage

@@ -15,6 +15,7 @@ ghost use Rattle.ports.specs.Devices.{OneRose, MetersGoOn};
 ghost use Rattle.round_steps.specs.Crews.{AreCrews, LieWithin};
 ghost use Rattle.round_steps.specs.Going.{AreDevices, MeterRose, Tell};
 ghost use Rattle.round_steps.specs.Standing.{IsSound, HaveEdges, HasEdges};
+ghost use Rattle.round_steps.specs.Damage.{IsEdgeDamage, NamesDamage};
 ghost use Rattle.round_steps.specs.Rounds.{MakesFirst, HasSums};
 
 use crate::crews::Crews;
@@ -57,6 +58,7 @@ pub(crate) fn sum_first<R: Threads + Sync, P: VertexProgram, D: Disk, G: Gate + 
     ensures table { seat.new.table ≡ seat.old.table }
     ensures cause { result.outcome ≡ Outcome.DiskFault → MeterRose D.M.faults meters.old.items meters.new.items ⊎ OneRose D.state spills.old.items spills.new.items }
     ensures sound { (records : ℕ → ℕ → List Edge) → HaveEdges D.state run.now.job.now run.now.split.now run.now.index.now graphs.now records → IsSound result.outcome }
+    ensures damaged { NamesDamage (IsEdgeDamage D.state run.now.job.now run.now.split.now run.now.index.now graphs.now) result.outcome }
     ensures epochs { MakesFirst (P.rules run.now.program.now).counts run.now.job.now run.now.index.now (result.outcome ≡ Outcome.Done) seat.old.view seat.new.view result.claims result.admitted }
     ensures within { result.outcome ≡ Outcome.Done → LieWithin D.state crews.new.replicas.items spills.new.items }
     ensures sums { result.outcome ≡ Outcome.Done → (edges : List Edge) → HasEdges D.state run.now.job.now run.now.split.now run.now.index.now graphs.now edges → Tell D.state spills.old.items
@@ -102,6 +104,7 @@ fn count_edges<R: Threads + Sync, P: VertexProgram, D: Disk, G: Gate + Sync>(
     ensures table { seat.new.table ≡ seat.old.table }
     ensures cause { result.outcome ≡ Outcome.DiskFault → MeterRose D.M.faults meters.old.items meters.new.items ⊎ OneRose D.state spills.old.items spills.new.items }
     ensures sound { (records : ℕ → ℕ → List Edge) → HaveEdges D.state run.now.job.now run.now.split.now run.now.index.now graphs.now records → IsSound result.outcome }
+    ensures damaged { NamesDamage (IsEdgeDamage D.state run.now.job.now run.now.split.now run.now.index.now graphs.now) result.outcome }
     ensures epochs { MakesFirst true run.now.job.now run.now.index.now (result.outcome ≡ Outcome.Done) seat.old.view seat.new.view result.claims result.admitted }
     ensures within { result.outcome ≡ Outcome.Done → LieWithin D.state crews.new.replicas.items spills.new.items }
     ensures counted { result.outcome ≡ Outcome.Done → (P.rules run.now.program.now).counts ≡ true → (edges : List Edge) → HasEdges D.state run.now.job.now run.now.split.now run.now.index.now graphs.now edges → Tell D.state spills.old.items

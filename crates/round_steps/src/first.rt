@@ -10,6 +10,7 @@ ghost use Rattle.ports.specs.Devices.{MetersGoOn};
 ghost use Rattle.round_steps.specs.Crews.{AreCrews};
 ghost use Rattle.round_steps.specs.Going.{IsStore, KeepsStore, SomeRose};
 ghost use Rattle.round_steps.specs.Standing.{IsSound, HaveEdges, IsBefore};
+ghost use Rattle.round_steps.specs.Damage.{IsEdgeDamage, NamesDamage};
 ghost use Rattle.round_steps.specs.Rounds.{StoresRound, MakesFirst};
 
 use crate::crews::Crews;
@@ -53,6 +54,7 @@ pub fn make_first<R: Threads + Sync, P: VertexProgram, D: Disk, G: Gate + Sync>(
     ensures through { result.outcome ≡ Outcome.Done → beat.new ≡ beat.old + 1 }
     ensures cause { result.outcome ≡ Outcome.DiskFault → SomeRose D.state D.M.faults store.old store.new meters.old.items meters.new.items }
     ensures sound { (records : ℕ → ℕ → List Edge) → HaveEdges D.state run.now.job.now run.now.split.now run.now.index.now store.old.graphs.items records → IsSound result.outcome }
+    ensures damaged { NamesDamage (IsEdgeDamage D.state run.now.job.now run.now.split.now run.now.index.now store.old.graphs.items) result.outcome }
     ensures epochs { MakesFirst (P.rules run.now.program.now).counts run.now.job.now run.now.index.now (result.outcome ≡ Outcome.Done) seat.old.view seat.new.view result.claims result.admitted }
     // Where the store is whole.
     ensures round { (edges : List Edge) → IsBefore D.state (P.rules run.now.program.now) run.now.job.now run.now.split.now run.now.index.now edges 0 false store.old

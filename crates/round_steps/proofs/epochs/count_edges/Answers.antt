@@ -2,6 +2,7 @@
 use Rattle.std.proofs.Common.{refl, ◌∙◌, ap, arith}
 use Rattle.epoch_laws.specs.Phases.{edge_shelf}
 use Rattle.round_steps.proofs.Counts.{meters_go_on, spills_go_on, rose_of_one, bytes_of, tell_still}
+use Rattle.round_steps.proofs.Damage.{counts_names}
 use Rattle.round_steps.proofs.Begun.{counts_soundly, counts_epochs, is_begun}
 use Rattle.round_steps.proofs.Gathered.{all_within, counts_merge}
 use Rattle.round_steps.proofs.epochs.count_edges.Goals as goal
@@ -25,6 +26,9 @@ pub returns-clause-sound : goal.returns-clause-sound
 returns-clause-sound g c = λ records stand.
     counts_soundly g.P.VertexProgram.rules g.D.Disk.state g.D.M.Meter.faults _ c.args.seat.now.view c.gather_all.new.seat.view c.args.meters.now.items c.gather_all.new.meters.items c.args.spills.now.items c.gather_all.new.spills.items c.gather_all.new.replicas.items
     c.gather_all.result c.gather_all.ensures.gathered c.gather_all.ensures.stopped refl records stand
+
+pub returns-clause-damaged : goal.returns-clause-damaged
+returns-clause-damaged g c = counts_names g.P.VertexProgram.rules g.D.Disk.state _ c.gather_all.result.outcome c.gather_all.ensures.stopped refl c.args.graphs.now (λ engine lane. refl)
 
 pub returns-clause-epochs : goal.returns-clause-epochs
 returns-clause-epochs g c =

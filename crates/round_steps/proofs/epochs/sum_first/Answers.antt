@@ -14,6 +14,9 @@ returns-then-counts-clause-epochs g c =
     subst (λ (counts : Bool). MakesFirst counts c.args.run.now.job.now c.args.run.now.index.now (c.count_edges.result.outcome ≡ Done) c.args.seat.now.view c.count_edges.new.seat.view c.count_edges.result.claims c.count_edges.result.admitted)
     (let is : true ≡ (g.P.VertexProgram.rules c.args.run.now.program.now).counts = cc in is) c.count_edges.ensures.epochs
 
+pub returns-then-counts-clause-damaged : goal.returns-then-counts-clause-damaged
+returns-then-counts-clause-damaged g c = c.count_edges.ensures.damaged
+
 pub returns-then-counts-clause-sums : goal.returns-then-counts-clause-sums
 returns-then-counts-clause-sums g c = λ done edges has tell.
     let counts : (g.P.VertexProgram.rules c.args.run.now.program.now).counts ≡ true = cc in
@@ -28,6 +31,9 @@ returns-clause-crews g c =
 pub returns-clause-epochs : goal.returns-clause-epochs
 returns-clause-epochs g c =
     no_epochs (g.P.VertexProgram.rules c.args.run.now.program.now).counts c.args.run.now.job.now c.args.run.now.index.now (Done ≡ Done) c.args.seat.now.view (let is : (g.P.VertexProgram.rules c.args.run.now.program.now).counts ≡ false = cc in is) c.requires.between
+
+pub returns-clause-damaged : goal.returns-clause-damaged
+returns-clause-damaged g c = tt
 
 pub returns-clause-within : goal.returns-clause-within
 returns-clause-within g c = λ done. new_lie g.D.Disk.state c.reset_all.new.all.items c.args.spills.now.items (new_unspilled c.unit-unit.result c.reset_all.new.all.items c.reset_all.ensures.reset)

@@ -3,6 +3,8 @@ use Rattle.std.proofs.Common.{◌≡◌, inl, inr, ◌+◌, ◌-◌, ℕ, true, 
 use Rattle.graph_model.specs.Rounds.{IsWithinGraph}
 use Rattle.store_reader.specs.declared.store.Outcome.TheVariants.{Done}
 use Rattle.round_steps.specs.Standing.{HaveEdges}
+use Rattle.round_steps.specs.Damage.{IsEdgeDamage, NamesDamage}
+use Rattle.round_steps.proofs.Damage.{sound_names}
 use Rattle.round_steps.proofs.Kept.{meters_then, meter_rose_later, go_on_same, rows_same, go_on_later, others_same, others_from, nothing_stored, stored_from, values_for_apply, within_from, merged_from, edges_from, splits_from, is_store, first_through}
 use Rattle.round_steps.proofs.first.make_first.Goals as goal
 
@@ -33,6 +35,10 @@ returns-then-not-is_done-clause-cause g c = λ fault.
 pub returns-then-not-is_done-clause-sound : goal.returns-then-not-is_done-clause-sound
 returns-then-not-is_done-clause-sound g c = λ records stand.
     c.sum_first-summed.ensures.sound records (subst (λ gs. HaveEdges g.D.Disk.state c.args.run.now.job.now c.args.run.now.split.now c.args.run.now.index.now gs records) (sym c.as_slice.ensures.value) stand)
+
+pub returns-then-not-is_done-clause-damaged : goal.returns-then-not-is_done-clause-damaged
+returns-then-not-is_done-clause-damaged g c =
+    subst (λ gs. NamesDamage (IsEdgeDamage g.D.Disk.state c.args.run.now.job.now c.args.run.now.split.now c.args.run.now.index.now gs) c.sum_first-summed.result.outcome) c.as_slice.ensures.value c.sum_first-summed.ensures.damaged
 
 pub returns-then-not-is_done-clause-round : goal.returns-then-not-is_done-clause-round
 returns-then-not-is_done-clause-round g c = λ edges stands.
@@ -88,6 +94,10 @@ returns-clause-cause g c = λ fault.
       | inl meter ↦ inl (meter_rose_later g.D.M.Meter.faults c.args.meters.now.items c.sum_first-summed.new.meters.items c.store_round-applied.new.meters.items c.sum_first-summed.ensures.meters meter)
       | inr value ↦ inr (inl value)
     ]
+
+pub returns-clause-damaged : goal.returns-clause-damaged
+returns-clause-damaged g c =
+    sound_names (IsEdgeDamage g.D.Disk.state c.args.run.now.job.now c.args.run.now.split.now c.args.run.now.index.now c.args.store.now.graphs.items) c.store_round-applied.result.outcome c.store_round-applied.ensures.sound
 
 pub returns-clause-epochs : goal.returns-clause-epochs
 returns-clause-epochs g c =

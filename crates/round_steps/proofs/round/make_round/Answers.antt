@@ -2,6 +2,8 @@
 use Rattle.std.proofs.Common.{◌≡◌, inl, inr, ◌+◌, ◌-◌, ℕ, true, false, ◌∙◌, ap, subst, arith}
 use Rattle.graph_model.specs.Rounds.{IsWithinGraph}
 use Rattle.store_reader.specs.declared.store.Outcome.TheVariants.{Done}
+use Rattle.round_steps.specs.Damage.{IsDamage}
+use Rattle.round_steps.proofs.Damage.{sound_names}
 use Rattle.round_steps.proofs.Kept.{meters_then, meter_rose_later, go_on_later, rows_later, others_from, stored_from, values_for_apply, within_from, merged_from, splits_from, is_store, values_untouched, sizes_untouched, devices_untouched, others_untouched, stored_untouched, others_from_same, rose_untouched, round_through}
 use Rattle.round_steps.proofs.round.make_round.Goals as goal
 
@@ -29,6 +31,9 @@ returns-then-not-is_done-clause-through g c = λ done. absurd (c.is_done.ensures
 pub returns-then-not-is_done-clause-cause : goal.returns-then-not-is_done-clause-cause
 returns-then-not-is_done-clause-cause g c = λ fault.
     elim (c.sum_round-summed.ensures.cause fault) [ inl meter ↦ inl meter | inr rose ↦ inr (inr rose) ]
+
+pub returns-then-not-is_done-clause-damaged : goal.returns-then-not-is_done-clause-damaged
+returns-then-not-is_done-clause-damaged g c = c.sum_round-summed.ensures.damaged
 
 pub returns-then-not-is_done-clause-round : goal.returns-then-not-is_done-clause-round
 returns-then-not-is_done-clause-round g c = λ edges stands.
@@ -84,6 +89,10 @@ returns-clause-cause g c = λ fault.
       | inl meter ↦ inl (meter_rose_later g.D.M.Meter.faults c.args.meters.now.items c.sum_round-summed.new.meters.items c.store_round-applied.new.meters.items c.sum_round-summed.ensures.meters meter)
       | inr value ↦ inr (inl (rose_untouched g.D.Disk.state c.args.store.now.values.items c.sum_round-summed.new.store.values.items c.store_round-applied.new.values.items (ap (λ v. v.items) c.sum_round-summed.ensures.values) value))
     ]
+
+pub returns-clause-damaged : goal.returns-clause-damaged
+returns-clause-damaged g c =
+    sound_names (IsDamage g.D.Disk.state c.args.run.now.job.now c.args.run.now.split.now c.args.run.now.index.now c.args.store.now.graphs.items c.sum_round-summed.new.store.lanes.items) c.store_round-applied.result.outcome c.store_round-applied.ensures.sound
 
 pub returns-clause-epochs : goal.returns-clause-epochs
 returns-clause-epochs g c =

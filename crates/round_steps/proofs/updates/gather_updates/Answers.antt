@@ -1,6 +1,7 @@
 -- The clauses of `gather_all` on a context that gathers.
 use Rattle.std.proofs.Common.{refl, arith}
 use Rattle.round_steps.proofs.Counts.{meters_go_on, spills_go_on, rose_of_one}
+use Rattle.round_steps.proofs.Damage.{gathers_names}
 use Rattle.round_steps.proofs.Begun.{is_begun}
 use Rattle.round_steps.proofs.Gathered.{all_within}
 use Rattle.round_steps.proofs.Updated.{gathers, gathers_updates_soundly}
@@ -29,6 +30,12 @@ returns-clause-sound g c = λ shelf stand.
     gathers_updates_soundly g.P.VertexProgram.rules g.D.Disk.state g.D.M.Meter.faults _ c.args.seat.now.view c.gather_all.new.seat.view c.args.meters.now.items c.gather_all.new.meters.items c.args.spills.now.items c.gather_all.new.spills.items
     c.gather_all.new.replicas.items c.gather_all.result c.gather_all.ensures.gathered c.gather_all.ensures.stopped refl c.args.lanes.now shelf stand
     (record { lanes = c.args.lanes; shelf = refl; rows_are = refl; index_is = refl; job_is = refl; split_is = refl })
+
+pub returns-clause-damaged : goal.returns-clause-damaged
+returns-clause-damaged g c =
+    gathers_names g.P.VertexProgram.rules g.D.Disk.state _ c.gather_all.result.outcome c.gather_all.ensures.stopped refl c.args.lanes.now
+    (record { lanes = c.args.lanes; shelf = refl; rows_are = refl; index_is = refl; job_is = refl; split_is = refl })
+    (c.requires.served _ (record { lanes = c.args.lanes; shelf = refl; rows_are = refl; index_is = refl; job_is = refl; split_is = refl }))
 
 pub returns-clause-within : goal.returns-clause-within
 returns-clause-within g c = λ done.

@@ -2,6 +2,7 @@
 use Rattle.std.proofs.Common.{ℕ, refl, subst, arith}
 use Rattle.graph_model.specs.Rounds.{IsWithinGraph}
 use Rattle.round_steps.specs.Going.{AreRows}
+use Rattle.round_steps.proofs.Damage.{scatters_names}
 use Rattle.round_steps.proofs.Scattered.{rows_are, row_rose, scatters_soundly, scatters}
 use Rattle.round_steps.proofs.updates.scatter_edges.Goals as goal
 
@@ -20,6 +21,9 @@ pub returns-clause-sound : goal.returns-clause-sound
 returns-clause-sound g c = λ records stand.
     scatters_soundly g.P.VertexProgram.rules g.D.Disk.state g.D.M.Meter.faults _ c.args.seat.now.view c.scatter_all.new.seat.view c.args.meters.now.items c.scatter_all.new.meters.items c.args.lanes.now.items c.scatter_all.new.lanes.items c.scatter_all.new.updates
     c.scatter_all.result c.scatter_all.ensures.scattered c.scatter_all.ensures.stopped records stand
+
+pub returns-clause-damaged : goal.returns-clause-damaged
+returns-clause-damaged g c = scatters_names g.P.VertexProgram.rules g.D.Disk.state _ c.scatter_all.result.outcome c.scatter_all.ensures.stopped c.args.graphs.now (λ engine lane. refl)
 
 pub returns-clause-scattered : goal.returns-clause-scattered
 returns-clause-scattered g c =

@@ -3,6 +3,8 @@ use Rattle.std.proofs.Common.{◌≡◌, inl, inr, true, false, refl, sym, subst
 use Rattle.phase_model.specs.Lanes.{all_updates}
 use Rattle.store_reader.specs.declared.store.Outcome.TheVariants.{Done}
 use Rattle.round_steps.specs.Standing.{HaveEdges}
+use Rattle.round_steps.specs.Damage.{IsEdgeDamage, IsUpdateDamage, NamesDamage}
+use Rattle.round_steps.proofs.Damage.{edges_in_round, updates_in_round}
 use Rattle.round_steps.proofs.Kept.{meters_then, meter_rose_later}
 use Rattle.round_steps.proofs.Pairs.{first_alone, then_idle, both, sums_of_round, rows_tell_still, sent_from, gathers_from, stand_from}
 use Rattle.round_steps.proofs.updates.sum_round.Goals as goal
@@ -10,6 +12,13 @@ use Rattle.round_steps.proofs.updates.sum_round.Goals as goal
 pub returns-then-not-is_done-clause-sound : goal.returns-then-not-is_done-clause-sound
 returns-then-not-is_done-clause-sound g c = λ records stand tell.
     c.scatter_edges-scattered.ensures.sound records (subst (λ gs. HaveEdges g.D.Disk.state c.args.run.now.job.now c.args.run.now.split.now c.args.run.now.index.now gs records) (sym c.as_slice.ensures.value) stand)
+
+pub returns-then-not-is_done-clause-damaged : goal.returns-then-not-is_done-clause-damaged
+returns-then-not-is_done-clause-damaged g c =
+    let run = c.args.run.now in
+    let outcome = c.scatter_edges-scattered.result.outcome in
+    edges_in_round g.D.Disk.state run.job.now run.split.now run.index.now c.args.store.now.graphs.items c.scatter_edges-scattered.new.lanes.items outcome
+    (subst (λ gs. NamesDamage (IsEdgeDamage g.D.Disk.state run.job.now run.split.now run.index.now gs) outcome) c.as_slice.ensures.value c.scatter_edges-scattered.ensures.damaged)
 
 pub returns-then-not-is_done-clause-epochs : goal.returns-then-not-is_done-clause-epochs
 returns-then-not-is_done-clause-epochs g c =
@@ -36,6 +45,19 @@ returns-clause-sound g c = λ records stand tell.
     c.gather_updates-gathered.ensures.sound (all_updates c.args.run.now.job.now c.args.epoch 0 sent.sent)
     (stand_from g.D.Disk.state _ c.args.run.now.job.now c.args.run.now.split.now c.scatter_edges-scattered.new.lanes.items c.as_slice-3.result.now c.scatter_edges-scattered.new.crews.updates (all_updates c.args.run.now.job.now c.args.epoch 0 sent.sent)
     (sym c.as_slice-3.ensures.value) (sent.stand (rows_tell_still g.D.Disk.state c.args.beat.now c.args.store.now.lanes.items c.scatter_edges-scattered.new.lanes.items c.scatter_edges-scattered.ensures.lanes tell)))
+
+pub returns-clause-damaged : goal.returns-clause-damaged
+returns-clause-damaged g c =
+    let run = c.args.run.now in
+    let lanes = c.scatter_edges-scattered.new.lanes.items in
+    let outcome = c.gather_updates-gathered.result.outcome in
+    let done : c.scatter_edges-scattered.result.outcome ≡ Done = c.is_done.ensures.done (let is : c.is_done.result ≡ true = grind arith in is) in
+    let sent = c.scatter_edges-scattered.ensures.scattered.has_sent done in
+    let updates = all_updates run.job.now c.args.epoch 0 sent.sent in
+    updates_in_round g.D.Disk.state run.job.now run.split.now run.index.now c.args.store.now.graphs.items lanes outcome
+    (subst (λ rows. NamesDamage (IsUpdateDamage g.D.Disk.state run.job.now run.split.now rows) outcome) c.as_slice-3.ensures.value c.gather_updates-gathered.ensures.damaged)
+    (λ tell. c.gather_updates-gathered.ensures.sound updates
+    (stand_from g.D.Disk.state _ run.job.now run.split.now lanes c.as_slice-3.result.now c.scatter_edges-scattered.new.crews.updates updates (sym c.as_slice-3.ensures.value) (sent.stand tell)))
 
 pub returns-clause-epochs : goal.returns-clause-epochs
 returns-clause-epochs g c =
