@@ -31,6 +31,7 @@ module _ {D M : Type 0} (state : D → DiskState) (faults : M → ℕ) (rules : 
     limited = λ is. absurd cc;
     at_limit = λ is. absurd cc;
     sound = run.sound;
+    damaged = λ part engine place is. absurd cc;
     well = λ edges has told good.
         let well = run.well edges has told good in
         record { are = well.are; last = well.last; unsettled = well.unsettled; settles = well.settles; stored = well.stored; any_stop = well.any_stop; since = well.since };

@@ -21,6 +21,7 @@ use Rattle.phase_model.specs.JobTerms.{terms_of}
 use Rattle.round_steps.specs.Epochs.{IsWhole, HasFewChunks, ForRound}
 use Rattle.round_steps.specs.Going.{IsStore, KeepsStore, SomeRose}
 use Rattle.round_steps.specs.Standing.{IsSound, HaveEdges, HasEdges, StandsBefore, IsBefore}
+use Rattle.round_steps.specs.Damage.{IsDamage, NamesDamage}
 use Rattle.round_steps.specs.Rounds.{StoresRound, MakesEpochs, earlier_values}
 use Rattle.epoch_laws.specs.Phases.{Opens, updates_of, sending_in}
 use Rattle.scatter_epoch.specs.Sent.{RowsTell}
@@ -67,6 +68,7 @@ pub record Stepped {D M : Type 0} (state : D → DiskState) (faults : M → ℕ)
   pub few : helped ≤ 1024
   pub cause : outcome ≡ DiskFault → SomeRose state faults mid.store new.store mid.meters new.meters
   pub sound : (records : ℕ → ℕ → List Edge) → HaveEdges state job split index mid.store.graphs.items records → RowsTell state mid.store.lanes.items → IsSound outcome
+  pub damaged : NamesDamage (IsDamage state job split index mid.store.graphs.items new.store.lanes.items) outcome
   pub epochs : MakesEpochs state rules job split index round changed_only t mid.store (outcome ≡ Done) mid.seat new.seat took helped
   pub made : (edges : List Edge) → IsBefore state rules job split index edges round changed_only mid.store
       → StoresRound state rules split edges round (mid.beat + 1) (outcome ≡ Done) changed mid.store.values.items new.store.values.items

@@ -17,6 +17,7 @@ use Rattle.phase_model.specs.JobTerms.{terms_of}
 use Rattle.round_steps.specs.Epochs.{IsWhole, HasFewChunks}
 use Rattle.round_steps.specs.Going.{IsStore, KeepsStore, SomeRose}
 use Rattle.round_steps.specs.Standing.{IsSound, HaveEdges, HasEdges, StandsBefore, IsBefore}
+use Rattle.round_steps.specs.Damage.{IsEdgeDamage, NamesDamage}
 use Rattle.round_steps.specs.Rounds.{StoresRound, MakesFirst}
 use Rattle.round_loop.specs.declared.run.Start.TheVariants.{Fresh, At}
 use Rattle.partitioner.specs.Splits.{split_for}
@@ -39,6 +40,7 @@ pub record FirstMade {D M : Type 0} (state : D → DiskState) (faults : M → �
   pub few : helped ≤ 1024
   pub cause : outcome ≡ DiskFault → SomeRose state faults from.store new.store from.meters new.meters
   pub sound : (records : ℕ → ℕ → List Edge) → HaveEdges state job split index from.store.graphs.items records → IsSound outcome
+  pub damaged : NamesDamage (IsEdgeDamage state job split index from.store.graphs.items) outcome
   pub epochs : MakesFirst rules.counts job index (outcome ≡ Done) from.seat new.seat took helped
   pub made : (edges : List Edge) → IsBefore state rules job split index edges 0 false from.store
       → StoresRound state rules split edges 0 (from.beat + 1) (outcome ≡ Done) changed from.store.values.items new.store.values.items

@@ -24,6 +24,7 @@ use Rattle.std.specs.List.{flat_map}
 use Rattle.round_steps.specs.Epochs.{GoesThrough}
 use Rattle.round_steps.specs.Going.{IsStore, SomeRose}
 use Rattle.round_steps.specs.Standing.{IsSound, HaveEdges}
+use Rattle.round_steps.specs.Damage.{IsDamage, NamesDamage}
 use Rattle.round_loop.specs.declared.run.Start.{Start}
 use Rattle.round_loop.specs.declared.run.Start.TheVariants as start_of
 use Rattle.std.proofs.Math.Seq.{get_or-append_seam}
@@ -63,6 +64,19 @@ not_damaged outcomes.DiskFault fault of sound part engine place is = cc
 not_damaged (outcomes.Damaged p e a) fault of sound part engine place is = sound
 not_damaged outcomes.Memory fault of sound part engine place is = cc
 
+-- such damage as the outcome names
+abbrev IsFaultNaming : (IsIt : Part → (engine at : ℕ) → Type 0) → RoundFault → Type 0
+IsFaultNaming IsIt faulty.RoundLimit = Unit {0}
+IsFaultNaming IsIt faulty.DiskFault = Unit {0}
+IsFaultNaming IsIt (faulty.Damaged part engine place) = IsIt part engine place
+IsFaultNaming IsIt faulty.Memory = Unit {0}
+
+named_damage : (IsIt : Part → (engine at : ℕ) → Type 0) (outcome : Outcome) (fault : RoundFault) → IsFaultOf outcome fault → NamesDamage IsIt outcome → (part : Part) (engine place : ℕ) → fault ≡ faulty.Damaged part engine place → IsIt part engine place
+named_damage IsIt outcomes.Done fault of names part engine place is = absurd of
+named_damage IsIt outcomes.DiskFault fault of names part engine place is = absurd cc
+named_damage IsIt (outcomes.Damaged p e a) fault of names part engine place is = subst (IsFaultNaming IsIt) (sym of ∙ is) names
+named_damage IsIt outcomes.Memory fault of names part engine place is = absurd cc
+
 err_is : (a b : RoundFault) → IsErrOf {T = Done} (Err a) b → a ≡ b
 err_is a b is = cc
 
@@ -98,8 +112,9 @@ module _ {D M : Type 0} (state : D → DiskState) (faults : M → ℕ) (rules : 
 
     -- at a fault
     pub ends_by_fault : (outcome : Outcome) (fault : RoundFault) → IsFaultOf outcome fault → (outcome ≡ outcomes.DiskFault → SomeRose state faults from.store new.store from.meters new.meters) →
-        ((records : ℕ → ℕ → List Edge) → HaveEdges state job (split_for job) index from.store.graphs.items records → IsTold state from.store → IsSound outcome) → HasRun state faults rules job start index from new (Err fault)
-    ends_by_fault outcome fault of rose sound = record {
+        ((records : ℕ → ℕ → List Edge) → HaveEdges state job (split_for job) index from.store.graphs.items records → IsTold state from.store → IsSound outcome) →
+        NamesDamage (IsDamage state job (split_for job) index from.store.graphs.items new.store.lanes.items) outcome → HasRun state faults rules job start index from new (Err fault)
+    ends_by_fault outcome fault of rose sound names = record {
       store = come.store;
       keeps = come.keeps;
       meters = come.meters;
@@ -113,6 +128,7 @@ module _ {D M : Type 0} (state : D → DiskState) (faults : M → ℕ) (rules : 
       limited = λ is. absurd (no_limit outcome fault of (err_is fault faulty.RoundLimit is));
       at_limit = λ is. absurd (no_limit outcome fault of (err_is fault faulty.RoundLimit is));
       sound = λ records have told part engine place is. not_damaged outcome fault of (sound records have told) part engine place (err_is fault (faulty.Damaged part engine place) is);
+      damaged = λ part engine place is. named_damage (IsDamage state job (split_for job) index from.store.graphs.items new.store.lanes.items) outcome fault of names part engine place (err_is fault (faulty.Damaged part engine place) is);
       well = λ edges has told good.
           let well : ComesWell state rules job start edges done round changed from new epochs = come.well edges has told good in
           record {
@@ -143,6 +159,7 @@ module _ {D M : Type 0} (state : D → DiskState) (faults : M → ℕ) (rules : 
         limited = λ is. absurd cc;
         at_limit = λ is. absurd cc;
         sound = λ records have told part engine place is. cc;
+        damaged = λ part engine place is. absurd cc;
         well = λ edges has told good.
             let well : ComesWell state rules job start edges done round changed from new epochs = come.well edges has told good in
             let last : IsLastRound rules job.vertices edges job.limit round = ends_at_last rules job edges round changed well.due (well.counted is_done) ends settled in
@@ -182,6 +199,7 @@ module _ {D M : Type 0} (state : D → DiskState) (faults : M → ℕ) (rules : 
             limited = λ _. (come.whole is_done, open_ended, omega (arith, beyond, come.beat is_done));
             at_limit = λ _. (round, beyond, come_to);
             sound = λ records have told part engine place is. cc;
+            damaged = λ part engine place is. absurd cc;
             well = λ edges has told good.
                 let well : ComesWell state rules job start edges done round changed from new epochs = come.well edges has told good in
                 let found : IsUnsettled rules job.vertices edges job.limit × (round ≡ job.limit) = ends_unsettled rules job edges round changed well.due (well.counted is_done) open_ended ends some in
@@ -212,6 +230,7 @@ module _ {D M : Type 0} (state : D → DiskState) (faults : M → ℕ) (rules : 
     limited = λ is. absurd cc;
     at_limit = λ is. absurd cc;
     sound = λ records have told part engine place is. cc;
+    damaged = λ part engine place is. absurd cc;
     well = λ edges has told good. record {
       are = no_epochs rules job edges (counts_first rules start) (first_sent start);
       last = tt;
@@ -276,6 +295,7 @@ module _ {D M : Type 0} (state : D → DiskState) (faults : M → ℕ) (rules : 
       limited = run.limited;
       at_limit = run.at_limit;
       sound = run.sound;
+      damaged = run.damaged;
       well = λ edges has told good.
           let well = run.well edges has told good in
           record { are = well.are; last = well.last; unsettled = well.unsettled; settles = well.settles; stored = well.stored; any_stop = well.any_stop; since = well.since };

@@ -14,6 +14,8 @@ use Rattle.store_reader.specs.declared.store.Outcome.TheVariants.{Done}
 use Rattle.phase_model.specs.JobTerms.{terms_of}
 use Rattle.round_steps.specs.Going.{IsStore}
 use Rattle.round_steps.specs.Standing.{HaveEdges}
+use Rattle.round_steps.specs.Damage.{IsDamage, NamesDamage}
+use Rattle.round_steps.proofs.Damage.{edges_in_round}
 use Rattle.round_loop.specs.declared.run.Start.{Start}
 use Rattle.round_loop.specs.declared.run.Start.TheVariants.{Fresh}
 use Rattle.round_loop.specs.declared.course.Progress.{Progress}
@@ -87,7 +89,7 @@ module _ {D M : Type 0} (state : D → DiskState) (faults : M → ℕ) (rules : 
     pub begins_not : (fault : RoundFault) → IsFaultOf outcome fault → HasRun state faults rules job Fresh index from new (Err fault)
     begins_not fault of =
         ends_by_fault state faults rules job Fresh index (outcome ≡ Done) 0 changed took helped from new of_job.epochs.epochs (began state faults laws rules job index from ready_for new outcome changed took helped of_job)
-        outcome fault of of_job.cause (λ records have told. of_job.sound records have)
+        outcome fault of of_job.cause (λ records have told. of_job.sound records have) (edges_in_round state job (split_for job) index from.store.graphs.items new.store.lanes.items outcome of_job.damaged)
 
   -- One round more.
   module _ (laws : (d : D) → IsDisk (state d)) (start : Start) (split : Split) (split_is : split ≡ split_for job) (so_far : Progress) (mid new : Moment D M) (goes : GoesOn rules job.limit so_far.round so_far.changed) (below : so_far.round < MOST_ROUNDS)
@@ -124,6 +126,7 @@ module _ {D M : Type 0} (state : D → DiskState) (faults : M → ℕ) (rules : 
           ends_by_fault state faults rules job start index (outcome ≡ Done) (so_far.round + 1) changed (so_far.claims + took) (so_far.admitted + helped) from new all_epochs come
           outcome fault of (λ is. rose_since state faults from.store mid.store new.store from.meters mid.meters new.meters at.come.keeps at.come.meters (stepped.cause is))
           (λ records have told. stepped.sound records (subst (λ g. HaveEdges state job (split_for job) index g.items records) (sym at.come.keeps.graphs) have) (told_still state from.store mid.store at.come.keeps told).lanes)
+          (subst (λ g. NamesDamage (IsDamage state job (split_for job) index g.items new.store.lanes.items) outcome) at.come.keeps.graphs stepped.damaged)
 
 -- A further round is one of few.
 pub small_round : (rules : Rules) (limit round changed : ℕ) → GoesOn rules limit round changed → limit ≤ MOST_ROUNDS → ((last : ℕ) → rules.rounds ≡ Some last → last ≤ MOST_ROUNDS) → round < MOST_ROUNDS

@@ -16,6 +16,7 @@ use Rattle.store_reader.specs.declared.store.Part.{Part}
 use Rattle.round_steps.specs.Epochs.{IsWhole, WholeButLast, GoesThrough}
 use Rattle.round_steps.specs.Going.{IsStore, SomeRose, IsOpenEverywhere}
 use Rattle.round_steps.specs.Standing.{HaveEdges, HasEdges}
+use Rattle.round_steps.specs.Damage.{IsDamage}
 use Rattle.round_loop.specs.declared.run.Start.{Start}
 use Rattle.round_loop.specs.declared.run.Done.{Done}
 use Rattle.round_loop.specs.declared.fault.RoundFault.{RoundFault}
@@ -70,5 +71,7 @@ module _ {D M : Type 0} (state : D → DiskState) (faults : M → ℕ) (rules : 
     -- devices that tell are not damaged
     pub sound : (records : ℕ → ℕ → List Edge) → HaveEdges state job (split_for job) index old.store.graphs.items records → IsTold state old.store
         → (part : Part) (engine place : ℕ) → ¬ (IsErrOf result (Damaged part engine place))
+    -- on any devices: the damage that is named is that of a chunk of the index, or of updates on a lane, that was refused
+    pub damaged : (part : Part) (engine place : ℕ) → IsErrOf result (Damaged part engine place) → IsDamage state job (split_for job) index old.store.graphs.items new.store.lanes.items part engine place
     pub well : (edges : List Edge) → HasEdges state job (split_for job) index old.store.graphs.items edges → IsTold state old.store → IsGoodStart rules job edges state start old.store.values.items
         → RunsWell state rules job start edges old new epochs result
