@@ -1,12 +1,18 @@
 -- Why a run over a text ends so, and what the text and the devices call for.
-use Rattle.std.specs.Prelude.{◌≡◌, ◌⊎◌, ⊤, ℕ, Bool, true, false, Some}
+use Rattle.std.specs.Prelude.{◌≡◌, ◌⊎◌, ⊤, ℕ, Bool, true, false, Some, List}
 use Rattle.ports.specs.Disk.{DiskState}
 use Rattle.ports.specs.Faults.{Rose}
+use Rattle.graph_model.specs.declared.edge.Edge.{Edge}
 use Rattle.graph_model.specs.declared.edge.TextFault.TheVariants as fault
 use Rattle.graph_model.specs.declared.job.Job.{Job}
 use Rattle.graph_model.specs.EdgeText.{text_limit}
 use Rattle.graph_model.specs.Answer.{edges, refusal_of, IsAccepted, NeverSettles}
+use Rattle.partitioner.specs.Splits.{split_for}
+use Rattle.chunk_file.specs.declared.index.Place.{Place}
 use Rattle.store_model.specs.Kept.{IsPrepared, IsUnprepared}
+use Rattle.store_reader.specs.declared.store.Part.{Part}
+use Rattle.storage_engine.specs.Preparing.{IsMadeOf}
+use Rattle.round_steps.specs.Damage.{IsDamage}
 use Rattle.endings.specs.declared.ending.Ending.{Ending}
 use Rattle.endings.specs.declared.ending.Ending.TheVariants.{Answered, Dropped, Usage, BadLine, DiskFault, RoundLimit, Memory, ReadFault, WriteFault, NotPrepared, EnginesDiffer, Damaged, TooLong, StoreHolds}
 use Rattle.run_model.specs.Calls.{Call, OfText, OfTold, AnyRose}
@@ -29,8 +35,16 @@ abbrev pub Comes : (due ending : Ending) → Type 0
 Comes due ending = (ending ≡ due) ⊎ (is_interrupted ending ≡ true)
 
 module _ {D M : Type 0} (state : D → DiskState) (faults : M → ℕ) (job : Job) (call : Call D M) where
+  -- **Damage in a run**: the store was made of some edges, those of the text where the source tells it, and a chunk that was
+  -- made of them and is in its index is refused, or one of updates
+  pub record IsDamageOfMade (part : Part) (engine place : ℕ) : Type 0 where
+    pub given : List Edge
+    pub index : List (List Place)
+    pub made : IsMadeOf state job call.text index call.after.store.graphs.items given
+    pub damage : IsDamage state job (split_for job) index call.after.store.graphs.items call.after.store.lanes.items part engine place
+
   -- **Why a run ends so.** Want of memory is free, a fault has raised its count, and all else the text or the devices call
-  -- for; where the devices tell their bytes, no damage is found.
+  -- for; where the devices tell their bytes, no damage is found, and on any devices it is that of a chunk.
   abbrev pub HasCause : Ending → Type 0
   HasCause (Answered report) = OfText call.text (λ text. OfTold state call.before.store (λ graphs. IsUnprepared graphs × IsAccepted job text × (¬ (NeverSettles job (edges job text)))))
   HasCause (BadLine line) = OfText call.text (λ text. refusal_of job text ≡ Some (fault.BadLine line))
@@ -39,7 +53,7 @@ module _ {D M : Type 0} (state : D → DiskState) (faults : M → ℕ) (job : Jo
   HasCause Memory = ⊤
   HasCause ReadFault = Rose call.read_faults call.read_faults_after
   HasCause WriteFault = Rose call.write_faults call.write_faults_after
-  HasCause (Damaged part engine place) = OfTold state call.before.store (λ graphs. ⊥)
+  HasCause (Damaged part engine place) = OfTold state call.before.store (λ graphs. ⊥) × IsDamageOfMade part engine place
   HasCause (TooLong limit) = (limit ≡ text_limit job.chunk) × OfText call.text (λ text. refusal_of job text ≡ Some fault.TooLong)
   HasCause StoreHolds = OfTold state call.before.store IsPrepared
   HasCause Dropped = ⊥

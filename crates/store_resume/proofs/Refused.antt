@@ -28,7 +28,7 @@ use Rattle.run_model.specs.Causes.{is_interrupted, Comes}
 use Rattle.run_model.specs.Printing.{Prints}
 use Rattle.run_model.specs.Epochs.{IsComplete, HasGone}
 use Rattle.run_model.specs.Runs.{MOST_BEATS}
-use Rattle.store_resume.specs.Resumes.{told_as, OfBytes, HasResumeCause, HasPrintedNothing, HasRefused, HasCauseOfJob, StandsAfterResume, GoesOnWell, IsResume}
+use Rattle.store_resume.specs.Resumes.{told_as, OfBytes, HasResumeCause, HasDamage, HasPrintedNothing, HasRefused, HasCauseOfJob, StandsAfterResume, GoesOnWell, IsResume}
 use Rattle.run_model.proofs.Going.{store_same}
 use Rattle.run_model.proofs.Untouched.{prints_none, gone_none, none_of_job, none_counted}
 use Rattle.store_resume.specs.Refusals.{refusal}
@@ -102,6 +102,15 @@ module _ {D M : Type 0} (state : D → DiskState) (lawful : (d : D) → IsDisk (
   cause_of recover.DiskFault found = inr (inl found)
   cause_of recover.Memory found = tt
 
+  damage_of : (given : Job) (why : RecoverFault) → HasFound why → HasDamage state faults call given (refusal why)
+  damage_of given recover.NotPrepared found = tt
+  damage_of given (recover.EnginesDiffer held asked) found = tt
+  damage_of given (recover.Damaged Graph engine place) found = inl (record { untouched = same_store; fails = λ graphs values tell_graphs tell_values. (damage.GraphDamaged engine place, found graphs values tell_graphs tell_values, refl) })
+  damage_of given (recover.Damaged Values engine place) found = inl (record { untouched = same_store; fails = λ graphs values tell_graphs tell_values. (damage.ValuesDamaged engine place, found graphs values tell_graphs tell_values, refl) })
+  damage_of given (recover.Damaged Lane engine place) found = absurd found
+  damage_of given recover.DiskFault found = tt
+  damage_of given recover.Memory found = tt
+
   -- the first check that fails is answered
   first_is : (ending : Ending) (found : damage.Fault) → ending ≡ told_as found → IsThere found → OfBytes state faults call (λ graphs values. (fault : damage.Fault) → HasFault graphs values fault → Comes (told_as fault) ending)
   first_is ending found is there graphs values tell_graphs tell_values others fault has =
@@ -170,6 +179,7 @@ module _ {D M : Type 0} (state : D → DiskState) (lawful : (d : D) → IsDisk (
     job = some_job;
     gone = gone some_job (refusal why) (not_complete why);
     limited = λ limit is. absurd (not_complete why (subst IsComplete (sym is) tt));
+    damaged = damage_of some_job why found;
     back = back;
     graphs = ap (λ (store : Store D M). store.graphs) same_store;
     refused = refused_of why;

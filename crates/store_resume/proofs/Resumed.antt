@@ -62,7 +62,7 @@ use Rattle.run_model.specs.Epochs.{HasGone, AreJobEpochs, IsReportOf}
 use Rattle.run_model.specs.Standing.{IsStored}
 use Rattle.run_model.specs.Stops.{AtEachStop}
 use Rattle.run_model.specs.Runs.{MOST_BEATS}
-use Rattle.store_resume.specs.Resumes.{OfBytes, AreSettled, HasResumeCause, HasPrintedNothing, HasRefused, HasCauseOfJob, StandsAfterResume, GoesOnWell, IsAtLimit, IsResume}
+use Rattle.store_resume.specs.Resumes.{OfBytes, AreSettled, HasResumeCause, HasDamage, HasPrintedNothing, HasRefused, HasCauseOfJob, StandsAfterResume, GoesOnWell, IsAtLimit, IsResume}
 use Rattle.run_model.proofs.Going.{devices_on, store_same, store_run, some_rose_later}
 use Rattle.run_model.proofs.Untouched.{prints_none}
 use Rattle.run_model.proofs.Counted.{same_report, counts_of_finish}
@@ -297,6 +297,16 @@ module _ {D M : Type 0} (state : D → DiskState) (lawful : (d : D) → IsDisk (
   limited_of (finish.Stopped (fault.Damaged part engine place)) runs limit is = absurd (cc)
   limited_of (finish.Stopped fault.Memory) runs limit is = absurd (cc)
 
+  -- what is damaged
+  damage_of : (ended : Finish) → RunsTo (rounds_of ended) → HasDamage state faults call job (ending_of job (index_in found) ended)
+  damage_of (finish.Answered done) runs = tt
+  damage_of (finish.NotWritten done) runs = tt
+  damage_of (finish.NotRead done) runs = tt
+  damage_of (finish.Stopped fault.RoundLimit) runs = tt
+  damage_of (finish.Stopped fault.DiskFault) runs = tt
+  damage_of (finish.Stopped (fault.Damaged part engine place)) runs = inr (record { found = found; job_is = refl; recovered = recovered; damage = runs.damaged part engine place refl })
+  damage_of (finish.Stopped fault.Memory) runs = tt
+
   -- Whether or not it is the store of a job.
   resume_cause : (ended : Finish) → RunsTo (rounds_of ended) → HasFinishCause faults meters call.after.meters call.write_faults call.write_faults_after ended → HasResumeCause state faults call (ending_of job (index_in found) ended)
   resume_cause (finish.Answered done) runs caused = tt
@@ -376,6 +386,7 @@ module _ {D M : Type 0} (state : D → DiskState) (lawful : (d : D) → IsDisk (
       job = job;
       gone = gone_of ended runs;
       limited = λ limit is. limited_of ended runs limit is;
+      damaged = damage_of ended runs;
       back = back (rounds_of ended) runs;
       graphs = runs.keeps.graphs;
       refused = refused_of ended runs;

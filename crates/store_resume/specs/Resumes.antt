@@ -14,10 +14,14 @@ use Rattle.store_model.specs.Damage.{HasFault, head_of, own_in}
 use Rattle.store_model.specs.Kept.{IsWholeStore, StoreOf, IsEverywhere, IsKeptRound, IsFresh}
 use Rattle.store_checks.specs.Causes.{Tell}
 use Rattle.store_checks.specs.Rounds.{StandsEverywhere}
+use Rattle.store_reader.specs.declared.store.Part.{Part}
 use Rattle.store_reader.specs.declared.store.Part.TheVariants.{Graph, Values}
+use Rattle.restart.specs.declared.recovering.Recovered.{Recovered}
+use Rattle.restart.specs.Recovering.{job_in, index_in, IsRecovered}
 use Rattle.restart.specs.Storable.{IsStorable}
 use Rattle.restart.specs.Resuming.{changed_of_all}
 use Rattle.round_steps.specs.Going.{IsOpenEverywhere}
+use Rattle.round_steps.specs.Damage.{IsDamage}
 use Rattle.partitioner.specs.Splits.{split_for}
 use Rattle.round_loop.specs.Keeping.{IsTold}
 use Rattle.round_loop.specs.declared.run.Start.{Start}
@@ -78,6 +82,27 @@ module _ {D M : Type 0} (state : D → DiskState) (faults : M → ℕ) (call : C
   HasResumeCause ReadFault = ⊥
   HasResumeCause (TooLong limit) = ⊥
   HasResumeCause StoreHolds = ⊥
+
+  -- of what the graph devices and the values devices tell, whatever the others do
+  abbrev pub OfChecked : ((graphs values : List (List ℕ)) → Type 0) → Type 0
+  OfChecked P = (graphs values : List (List ℕ)) → Tell state call.before.store.graphs.items graphs → Tell state call.before.store.values.items values → P graphs values
+
+  -- **Damage that a check of the store has found**: nothing was done to the store, and where those tell their bytes it is the first check that fails
+  pub record IsDamageInChecks (part : Part) (engine place : ℕ) : Type 0 where
+    pub untouched : call.after.store ≡ call.before.store
+    pub fails : OfChecked (λ graphs values. (fault : damage.Fault) × HasFault graphs values fault × (Damaged part engine place ≡ told_as fault))
+
+  -- **Damage in the rounds** of a job that was recovered: a chunk that the recovered index names is refused, or one of updates
+  pub record IsDamageInRounds (job : Job) (part : Part) (engine place : ℕ) : Type 0 where
+    pub found : Recovered
+    pub job_is : job_in found ≡ job
+    pub recovered : OfChecked (λ graphs values. IsRecovered graphs values found)
+    pub damage : IsDamage state job (split_for job) (index_in found) call.before.store.graphs.items call.after.store.lanes.items part engine place
+
+  -- where a resume ends by damage, it is one or the other
+  abbrev pub HasDamage : Job → Ending → Type 0
+  HasDamage job (Damaged part engine place) = IsDamageInChecks part engine place ⊎ IsDamageInRounds job part engine place
+  HasDamage job _ = ⊤
 
   -- the limit is the job's, and a round of at least the limit stands in an open slot of every engine: it stood there, or was made
   pub record IsAtLimit (job : Job) (limit : ℕ) : Type 0 where
@@ -146,6 +171,7 @@ module _ {D M : Type 0} (state : D → DiskState) (faults : M → ℕ) (call : C
     pub job : Job
     pub gone : HasGone job call.before.seat call.after.seat ending epochs
     pub limited : (limit : ℕ) → ending ≡ RoundLimit limit → IsAtLimit job limit
+    pub damaged : HasDamage job ending
     pub back : IsBack state faults engines MOST_BEATS call.before call.after
     pub graphs : call.after.store.graphs ≡ call.before.store.graphs
     pub refused : HasRefused ending

@@ -130,7 +130,7 @@ module _ {D M : Type 0} (state : D → DiskState) (faults : M → ℕ) (job : Jo
     exact Memory cause = exact_interrupted Memory refl
     exact ReadFault cause = exact_interrupted ReadFault refl
     exact WriteFault cause = exact_interrupted WriteFault refl
-    exact (Damaged part engine place) cause = exact_damaged (Damaged part engine place) cause
+    exact (Damaged part engine place) cause = exact_damaged (Damaged part engine place) cause.0
     exact (TooLong limit) cause = exact_long limit cause
     exact StoreHolds cause = exact_held cause
     exact Dropped cause = absurd cause

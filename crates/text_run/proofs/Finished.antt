@@ -17,11 +17,13 @@ use Rattle.phase_model.specs.Shelves.{records_at}
 use Rattle.store_model.specs.Heads.{IsShutGraph}
 use Rattle.store_model.specs.Graphs.{graph}
 use Rattle.store_model.specs.Kept.{IsUnprepared, IsWholeStore, IsEverywhere}
+use Rattle.store_reader.specs.declared.store.Part.{Part}
 use Rattle.store_reader.specs.declared.store.Store.{Store}
 use Rattle.store_reader.specs.Devices.{SomeShut}
-use Rattle.storage_engine.specs.Preparing.{Prepares}
+use Rattle.storage_engine.specs.Preparing.{IsMadeOf, Prepares}
 use Rattle.epoch_laws.specs.Phases.{edge_shelf}
 use Rattle.round_steps.specs.Going.{AreDevices}
+use Rattle.round_steps.specs.Damage.{IsDamage}
 use Rattle.round_steps.proofs.Kept.{meters_then, meter_rose_later}
 use Rattle.round_loop.specs.declared.run.Start.TheVariants.{Fresh}
 use Rattle.round_loop.specs.declared.run.Done.{Done}
@@ -52,7 +54,7 @@ use Rattle.endings.specs.declared.ending.Ending.{Ending}
 use Rattle.endings.specs.declared.ending.Ending.TheVariants.{Answered, WriteFault, RoundLimit}
 use Rattle.run_model.specs.Telling.{ending_of, report_of, CountsChunks}
 use Rattle.run_model.specs.Calls.{Call, OfText, IsReady, Tells, StoreGoesOn, IsBack}
-use Rattle.run_model.specs.Causes.{HasCause}
+use Rattle.run_model.specs.Causes.{IsDamageOfMade, HasCause}
 use Rattle.run_model.specs.Printing.{HasPrinted}
 use Rattle.store_rounds.specs.Printed.{AnswerPrinted, FrontPrinted}
 use Rattle.run_model.specs.Epochs.{HasGone, AreJobEpochs, IsReportOf}
@@ -167,6 +169,15 @@ module _ {D M : Type 0} (state : D → DiskState) (lawful : (d : D) → IsDisk (
           );
     }
 
+  -- what is damaged
+  damage_of : (part : Part) (engine place : ℕ) → RunsTo (Err (fault.Damaged part engine place)) → IsDamageOfMade state faults job call part engine place
+  damage_of part engine place runs = record {
+    given = prepares.made.0;
+    index = index;
+    made = subst (λ (graphs : Vec D Global). IsMadeOf state job call.text index graphs.items prepares.made.0) (sym runs.keeps.graphs) prepares.made.1;
+    damage = subst (λ (graphs : Vec D Global). IsDamage state job (split_for job) index graphs.items call.after.store.lanes.items part engine place) (sym runs.keeps.graphs) (runs.damaged part engine place refl);
+  }
+
   -- What is said by each finish.
   cause_of : (ended : Finish) → RunsTo (rounds_of ended) → HasFinishCause faults meters call.after.meters call.write_faults call.write_faults_after ended → HasCause state faults job call (ending_of job index ended)
   cause_of (finish.Answered done) runs caused = λ told is graphs tells. (
@@ -178,9 +189,12 @@ module _ {D M : Type 0} (state : D → DiskState) (lawful : (d : D) → IsDisk (
   cause_of (finish.NotRead done) runs caused = inr (inl (meter_rose_later faults call.before.meters meters call.after.meters on caused.caused))
   cause_of (finish.Stopped fault.RoundLimit) runs caused = (refl, λ told is graphs tells. (unprepared state faults job call shut graphs tells, (accepted told is).0, ((runs_well (Err fault.RoundLimit) runs told is graphs tells).unsettled refl).0))
   cause_of (finish.Stopped fault.DiskFault) runs caused = inr (some_rose_later state faults call.before.store new call.after.store call.before.meters meters call.after.meters first_on on (runs.rose refl))
-  cause_of (finish.Stopped (fault.Damaged part engine place)) runs caused = λ graphs tells. runs.sound (records_at (edge_shelf job prepares.made.0))
+  cause_of (finish.Stopped (fault.Damaged part engine place)) runs caused = (
+    λ graphs tells. runs.sound (records_at (edge_shelf job prepares.made.0))
       (has_edges state job well second call.text call.text_after call.before.beat now read call.before.store new index prepares lanes spills call.before.meters call.before.seat ready graphs tells).stand
-      (told_made state job well second call.text call.text_after call.before.beat now read call.before.store new index prepares lanes spills call.before.meters call.before.seat ready graphs tells) part engine place refl
+      (told_made state job well second call.text call.text_after call.before.beat now read call.before.store new index prepares lanes spills call.before.meters call.before.seat ready graphs tells) part engine place refl,
+    damage_of part engine place runs,
+  )
   cause_of (finish.Stopped fault.Memory) runs caused = tt
 
   whole_printed : (done : Done) → RunsTo (Ok done) → PrintsAll state (split_for job) call.after.store.values.items (slot_of done.round) (shows_side job.program) call.out call.out_after
