@@ -41,7 +41,7 @@ module _ {D M : Type 0} (state : D → DiskState) (faults : M → ℕ) (job : Jo
     pub given : List Edge
     pub index : List (List Place)
     pub made : IsMadeOf state job call.text index call.after.store.graphs.items given
-    pub damage : IsDamage state job (split_for job) index call.after.store.graphs.items call.after.store.lanes.items part engine place
+    pub refused : IsDamage state job (split_for job) index call.after.store.graphs.items call.after.store.lanes.items part engine place
 
   -- **Why a run ends so.** Want of memory is free, a fault has raised its count, and all else the text or the devices call
   -- for; where the devices tell their bytes, no damage is found, and on any devices it is that of a chunk.

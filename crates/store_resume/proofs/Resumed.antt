@@ -304,7 +304,7 @@ module _ {D M : Type 0} (state : D → DiskState) (lawful : (d : D) → IsDisk (
   damage_of (finish.NotRead done) runs = tt
   damage_of (finish.Stopped fault.RoundLimit) runs = tt
   damage_of (finish.Stopped fault.DiskFault) runs = tt
-  damage_of (finish.Stopped (fault.Damaged part engine place)) runs = inr (record { found = found; job_is = refl; recovered = recovered; damage = runs.damaged part engine place refl })
+  damage_of (finish.Stopped (fault.Damaged part engine place)) runs = inr (record { found = found; job_is = refl; engines = sym many_graphs; recovered = recovered; refused = runs.damaged part engine place refl })
   damage_of (finish.Stopped fault.Memory) runs = tt
 
   -- Whether or not it is the store of a job.

@@ -1,5 +1,5 @@
 -- **What a resume promises**: the rounds of the job that stands on the devices, from the round that they keep.
-use Rattle.std.specs.Prelude.{◌≡◌, ◌⊎◌, ⊤, ℕ, ◌≤◌, List, [], true, map}
+use Rattle.std.specs.Prelude.{◌≡◌, ◌⊎◌, ⊤, ℕ, ◌≤◌, List, [], true, map, length}
 use Rattle.ports.specs.Disk.{DiskState}
 use Rattle.ports.specs.Faults.{Rose}
 use Rattle.ports.specs.Stops.{AreImages}
@@ -96,8 +96,9 @@ module _ {D M : Type 0} (state : D → DiskState) (faults : M → ℕ) (call : C
   pub record IsDamageInRounds (job : Job) (part : Part) (engine place : ℕ) : Type 0 where
     pub found : Recovered
     pub job_is : job_in found ≡ job
+    pub engines : job.engines ≡ length call.before.store.graphs.items
     pub recovered : OfChecked (λ graphs values. IsRecovered graphs values found)
-    pub damage : IsDamage state job (split_for job) (index_in found) call.before.store.graphs.items call.after.store.lanes.items part engine place
+    pub refused : IsDamage state job (split_for job) (index_in found) call.before.store.graphs.items call.after.store.lanes.items part engine place
 
   -- where a resume ends by damage, it is one or the other
   abbrev pub HasDamage : Job → Ending → Type 0

@@ -175,7 +175,7 @@ module _ {D M : Type 0} (state : D → DiskState) (lawful : (d : D) → IsDisk (
     given = prepares.made.0;
     index = index;
     made = subst (λ (graphs : Vec D Global). IsMadeOf state job call.text index graphs.items prepares.made.0) (sym runs.keeps.graphs) prepares.made.1;
-    damage = subst (λ (graphs : Vec D Global). IsDamage state job (split_for job) index graphs.items call.after.store.lanes.items part engine place) (sym runs.keeps.graphs) (runs.damaged part engine place refl);
+    refused = subst (λ (graphs : Vec D Global). IsDamage state job (split_for job) index graphs.items call.after.store.lanes.items part engine place) (sym runs.keeps.graphs) (runs.damaged part engine place refl);
   }
 
   -- What is said by each finish.
