@@ -65,17 +65,17 @@ not_damaged (outcomes.Damaged p e a) fault of sound part engine place is = sound
 not_damaged outcomes.Memory fault of sound part engine place is = cc
 
 -- such damage as the outcome names
-abbrev IsFaultNaming : (IsIt : Part → (engine at : ℕ) → Type 0) → RoundFault → Type 0
-IsFaultNaming IsIt faulty.RoundLimit = Unit {0}
-IsFaultNaming IsIt faulty.DiskFault = Unit {0}
-IsFaultNaming IsIt (faulty.Damaged part engine place) = IsIt part engine place
-IsFaultNaming IsIt faulty.Memory = Unit {0}
+abbrev IsFaultNaming : (IsDamaged : Part → (engine at : ℕ) → Type 0) → RoundFault → Type 0
+IsFaultNaming IsDamaged faulty.RoundLimit = Unit {0}
+IsFaultNaming IsDamaged faulty.DiskFault = Unit {0}
+IsFaultNaming IsDamaged (faulty.Damaged part engine place) = IsDamaged part engine place
+IsFaultNaming IsDamaged faulty.Memory = Unit {0}
 
-named_damage : (IsIt : Part → (engine at : ℕ) → Type 0) (outcome : Outcome) (fault : RoundFault) → IsFaultOf outcome fault → NamesDamage IsIt outcome → (part : Part) (engine place : ℕ) → fault ≡ faulty.Damaged part engine place → IsIt part engine place
-named_damage IsIt outcomes.Done fault of names part engine place is = absurd of
-named_damage IsIt outcomes.DiskFault fault of names part engine place is = absurd cc
-named_damage IsIt (outcomes.Damaged p e a) fault of names part engine place is = subst (IsFaultNaming IsIt) (sym of ∙ is) names
-named_damage IsIt outcomes.Memory fault of names part engine place is = absurd cc
+named_damage : (IsDamaged : Part → (engine at : ℕ) → Type 0) (outcome : Outcome) (fault : RoundFault) → IsFaultOf outcome fault → NamesDamage IsDamaged outcome → (part : Part) (engine place : ℕ) → fault ≡ faulty.Damaged part engine place → IsDamaged part engine place
+named_damage IsDamaged outcomes.Done fault of names part engine place is = absurd of
+named_damage IsDamaged outcomes.DiskFault fault of names part engine place is = absurd cc
+named_damage IsDamaged (outcomes.Damaged p e a) fault of names part engine place is = subst (IsFaultNaming IsDamaged) (sym of ∙ is) names
+named_damage IsDamaged outcomes.Memory fault of names part engine place is = absurd cc
 
 err_is : (a b : RoundFault) → IsErrOf {T = Done} (Err a) b → a ≡ b
 err_is a b is = cc

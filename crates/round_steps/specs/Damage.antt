@@ -25,7 +25,7 @@ module _ {D : Type 0} (state : D → DiskState) where
   told_of_lane lanes worker engine = option_and_then (λ (own : Vec D Global). option_and_then (λ disk. (state disk).bytes) (slice_get own.items engine)) (slice_get lanes worker)
 
   module _ (job : Job) (split : Split) where
-    -- **A chunk of edges is refused**: the index has one at this byte of this engine's graph device, and where the device tells its bytes no chunk of the job stands there
+    -- **A chunk of edges is refused**: the index has it, of some partition, at this byte of this engine's graph device, and where the device tells its bytes no chunk of that partition stands there
     pub record IsRefusedEdgeChunk (index : List (List Place)) (graphs : List D) (engine at : ℕ) : Type 0 where
       pub partition : ℕ
       pub t : ℕ
@@ -34,7 +34,7 @@ module _ {D : Type 0} (state : D → DiskState) where
       pub there : t < length (places_of index engine partition)
       pub refuses : RefusesAt (edge_layout job.format) split partition (place_at index engine partition t) (told_of_graph graphs engine) job.chunk at
 
-    -- **A chunk of updates is refused**: it was looked for at this byte of a worker's lane on this engine, and where the lane tells its bytes no chunk of the job stands there
+    -- **A chunk of updates is refused**: at this byte of the lane that a worker has on this engine, where the lane tells its bytes, no chunk of a partition stands that was to stand there
     pub record IsRefusedUpdateChunk (lanes : List (Vec D Global)) (engine at : ℕ) : Type 0 where
       pub worker : ℕ
       pub partition : ℕ
@@ -55,15 +55,15 @@ module _ {D : Type 0} (state : D → DiskState) where
     IsUpdateDamage lanes Values engine at = ⊥
     IsUpdateDamage lanes Lane engine at = IsRefusedUpdateChunk lanes engine at
 
-    -- **The damage that may be met in a round**: a chunk of edges that the index names is refused, or one of updates, and then not every lane tells its bytes
+    -- **The damage that may be met in a round**: a chunk of edges is refused, or one of updates, and then not every lane tells its bytes
     abbrev pub IsDamage : (index : List (List Place)) → (graphs : List D) → (lanes : List (Vec D Global)) → Part → (engine at : ℕ) → Type 0
     IsDamage index graphs lanes Graph engine at = IsRefusedEdgeChunk index graphs engine at
     IsDamage index graphs lanes Values engine at = ⊥
     IsDamage index graphs lanes Lane engine at = IsRefusedUpdateChunk lanes engine at × (RowsTell state lanes → ⊥)
 
 -- an outcome that tells of damage names such damage
-abbrev pub NamesDamage : (IsIt : Part → (engine at : ℕ) → Type 0) → Outcome → Type 0
-NamesDamage IsIt Done = Unit {0}
-NamesDamage IsIt DiskFault = Unit {0}
-NamesDamage IsIt (Damaged part engine at) = IsIt part engine at
-NamesDamage IsIt Memory = Unit {0}
+abbrev pub NamesDamage : (IsDamaged : Part → (engine at : ℕ) → Type 0) → Outcome → Type 0
+NamesDamage IsDamaged Done = Unit {0}
+NamesDamage IsDamaged DiskFault = Unit {0}
+NamesDamage IsDamaged (Damaged part engine at) = IsDamaged part engine at
+NamesDamage IsDamaged Memory = Unit {0}

@@ -191,8 +191,8 @@ module _ {D M : Type 0} (state : D → DiskState) (lawful : (d : D) → IsDisk (
   cause_of (finish.Stopped fault.DiskFault) runs caused = inr (some_rose_later state faults call.before.store new call.after.store call.before.meters meters call.after.meters first_on on (runs.rose refl))
   cause_of (finish.Stopped (fault.Damaged part engine place)) runs caused = (
     λ graphs tells. runs.sound (records_at (edge_shelf job prepares.made.0))
-      (has_edges state job well second call.text call.text_after call.before.beat now read call.before.store new index prepares lanes spills call.before.meters call.before.seat ready graphs tells).stand
-      (told_made state job well second call.text call.text_after call.before.beat now read call.before.store new index prepares lanes spills call.before.meters call.before.seat ready graphs tells) part engine place refl,
+        (has_edges state job well second call.text call.text_after call.before.beat now read call.before.store new index prepares lanes spills call.before.meters call.before.seat ready graphs tells).stand
+        (told_made state job well second call.text call.text_after call.before.beat now read call.before.store new index prepares lanes spills call.before.meters call.before.seat ready graphs tells) part engine place refl,
     damage_of part engine place runs,
   )
   cause_of (finish.Stopped fault.Memory) runs caused = tt
