@@ -34,7 +34,7 @@ module _ {D : Type 0} (state : D → DiskState) where
       pub there : t < length (places_of index engine partition)
       pub refuses : RefusesAt (edge_layout job.format) split partition (place_at index engine partition t) (told_of_graph graphs engine) job.chunk at
 
-    -- **A chunk of updates is refused**: at this byte of the lane that a worker has on this engine, where the lane tells its bytes, no chunk of a partition stands that was to stand there
+    -- **A chunk of updates is refused**: a worker has a lane on this engine, and where it tells its bytes no chunk of some partition that was looked for stands at this byte
     pub record IsRefusedUpdateChunk (lanes : List (Vec D Global)) (engine at : ℕ) : Type 0 where
       pub worker : ℕ
       pub partition : ℕ
