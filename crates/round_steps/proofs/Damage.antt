@@ -24,9 +24,15 @@ use Rattle.gather_phase.specs.declared.desk.GatherContext.{GatherContext}
 use Rattle.gather_phase.specs.Phases as gathering
 use Rattle.scatter_phase.specs.declared.desk.ScatterContext.{ScatterContext}
 use Rattle.scatter_phase.specs.Phases as scattering
+use Rattle.chunk_cursor.specs.declared.view.View.{View}
+use Rattle.replica_merge.specs.declared.replicas.Replicas.{Replicas}
+use Rattle.gather_epoch.specs.declared.crew.Gathered.{Gathered}
+use Rattle.scatter_epoch.specs.declared.crew.Scattered.{Scattered}
+use Rattle.scatter_epoch.specs.Scattering.{HaveScattered}
 use Rattle.scatter_epoch.specs.Sent.{IsOfRows, RowsTell}
 use Rattle.round_steps.specs.Standing.{IsSound}
-use Rattle.round_steps.specs.Damage.{told_of_graph, told_of_lane, IsRefusedEdgeChunk, IsRefusedUpdateChunk, IsEdgeDamage, IsUpdateDamage, IsDamage, NamesDamage}
+use Rattle.round_steps.specs.Damage.{told_of_graph, told_of_lane, IsEdgeDamage, IsUpdateDamage, IsDamage, NamesDamage}
+use Rattle.round_steps.proofs.Begun.{Either}
 
 pub names_weaker : (P Q : Part → (engine at : ℕ) → Type 0) → ((part : Part) (engine at : ℕ) → P part engine at → Q part engine at) → (outcome : Outcome) → NamesDamage P outcome → NamesDamage Q outcome
 names_weaker P Q weaker Done names = tt
@@ -99,32 +105,43 @@ module _ {D M : Type 0} (state : D → DiskState) where
             (subst (λ t. IfSome t (NoChunkIn update_layout serving.split.now serving.job.now.chunk refused.partition place.at)) told refused.refuses.none);
       })
 
-module _ {P D G M : Type 0} (rules : P → Rules) (state : D → DiskState) (c : GatherContext P D G M) where
+module _ {P D G M : Type 0} (rules : P → Rules) (state : D → DiskState) (faults : M → ℕ) (c : GatherContext P D G M) (before after : View) (meters meters' : List M) (spills spills' : List D) (replicas : List Replicas) (result : Gathered)
+    (either : Either rules state faults c before after meters meters' spills spills' replicas result) where
   -- where edges are counted
-  pub counts_names : (outcome : Outcome) → (outcome ≢ Done → gathering.MayStopBy rules state c outcome) → c.counting ≡ true → (graphs : List D) → IsOnGraphs state c.serving graphs
-      → NamesDamage (IsEdgeDamage state c.serving.job.now c.serving.split.now c.serving.index.now graphs) outcome
-  counts_names Done why counting graphs on = tt
-  counts_names DiskFault why counting graphs on = tt
-  counts_names (Damaged part engine at) why counting graphs on =
-      let found = subst (λ (b : Bool). (part ≡ gathering.part_of b) × gathering.IsRefused state b c.serving engine at) counting (why (λ is. cc)).0 in
-      refused_edges state c.serving graphs on part engine at found.0 found.1
-  counts_names Memory why counting graphs on = tt
+  pub counts_names : (result.outcome ≢ Done → gathering.MayStopBy rules state c result.outcome) → c.counting ≡ true → (graphs : List D) → IsOnGraphs state c.serving graphs
+      → NamesDamage (IsEdgeDamage state c.serving.job.now c.serving.split.now c.serving.index.now graphs) result.outcome
+  counts_names why counting graphs on = of result.outcome why
+    where
+      of : (outcome : Outcome) → (outcome ≢ Done → gathering.MayStopBy rules state c outcome) → NamesDamage (IsEdgeDamage state c.serving.job.now c.serving.split.now c.serving.index.now graphs) outcome
+      of Done why = tt
+      of DiskFault why = tt
+      of (Damaged part engine at) why =
+          let found = subst (λ (b : Bool). (part ≡ gathering.part_of b) × gathering.IsRefused state b c.serving engine at) counting (why (λ is. cc)).0 in
+          refused_edges state c.serving graphs on part engine at found.0 found.1
+      of Memory why = tt
 
   -- where updates are gathered
-  pub gathers_names : (outcome : Outcome) → (outcome ≢ Done → gathering.MayStopBy rules state c outcome) → c.counting ≡ false → (rows : List (Vec D Global))
-      → IsOfRows c.serving.job.now c.serving.split.now rows c.serving.index.now c.serving → IsServing c.serving → NamesDamage (IsUpdateDamage state c.serving.job.now c.serving.split.now rows) outcome
-  gathers_names Done why gathers rows of serves = tt
-  gathers_names DiskFault why gathers rows of serves = tt
-  gathers_names (Damaged part engine at) why gathers rows of serves =
-      let found = subst (λ (b : Bool). (part ≡ gathering.part_of b) × gathering.IsRefused state b c.serving engine at) gathers (why (λ is. cc)).0 in
-      refused_updates state c.serving rows of serves part engine at found.0 found.1
-  gathers_names Memory why gathers rows of serves = tt
+  pub gathers_names : (result.outcome ≢ Done → gathering.MayStopBy rules state c result.outcome) → c.counting ≡ false → (rows : List (Vec D Global)) → IsOfRows c.serving.job.now c.serving.split.now rows c.serving.index.now c.serving
+      → IsServing c.serving → NamesDamage (IsUpdateDamage state c.serving.job.now c.serving.split.now rows) result.outcome
+  gathers_names why gathers rows on serves = of result.outcome why
+    where
+      of : (outcome : Outcome) → (outcome ≢ Done → gathering.MayStopBy rules state c outcome) → NamesDamage (IsUpdateDamage state c.serving.job.now c.serving.split.now rows) outcome
+      of Done why = tt
+      of DiskFault why = tt
+      of (Damaged part engine at) why =
+          let found = subst (λ (b : Bool). (part ≡ gathering.part_of b) × gathering.IsRefused state b c.serving engine at) gathers (why (λ is. cc)).0 in
+          refused_updates state c.serving rows on serves part engine at found.0 found.1
+      of Memory why = tt
 
-module _ {P D G M : Type 0} (rules : P → Rules) (state : D → DiskState) (c : ScatterContext P D G M) where
+module _ {P D G M : Type 0} (rules : P → Rules) (state : D → DiskState) (faults : M → ℕ) (c : ScatterContext P D G M) (before after : View) (meters meters' : List M) (rows rows' : List (Vec D Global)) (index : List (List Place)) (result : Scattered)
+    (have : HaveScattered rules state faults c before after meters meters' rows rows' index result) where
   -- where edges send
-  pub scatters_names : (outcome : Outcome) → (outcome ≢ Done → scattering.MayStopBy rules state c outcome) → (graphs : List D) → IsOnGraphs state c.serving graphs
-      → NamesDamage (IsEdgeDamage state c.serving.job.now c.serving.split.now c.serving.index.now graphs) outcome
-  scatters_names Done why graphs on = tt
-  scatters_names DiskFault why graphs on = tt
-  scatters_names (Damaged part engine at) why graphs on = let found = (why (λ is. cc)).0 in refused_edges state c.serving graphs on part engine at found.0 found.1
-  scatters_names Memory why graphs on = tt
+  pub scatters_names : (result.outcome ≢ Done → scattering.MayStopBy rules state c result.outcome) → (graphs : List D) → IsOnGraphs state c.serving graphs
+      → NamesDamage (IsEdgeDamage state c.serving.job.now c.serving.split.now c.serving.index.now graphs) result.outcome
+  scatters_names why graphs on = of result.outcome why
+    where
+      of : (outcome : Outcome) → (outcome ≢ Done → scattering.MayStopBy rules state c outcome) → NamesDamage (IsEdgeDamage state c.serving.job.now c.serving.split.now c.serving.index.now graphs) outcome
+      of Done why = tt
+      of DiskFault why = tt
+      of (Damaged part engine at) why = let found = (why (λ is. cc)).0 in refused_edges state c.serving graphs on part engine at found.0 found.1
+      of Memory why = tt

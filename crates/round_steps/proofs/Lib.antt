@@ -4,8 +4,8 @@ pub mod Through
 pub mod Counts
 pub mod Gathered
 pub mod Resetting
-pub mod Damage
 pub mod Begun
+pub mod Damage
 pub mod Applied
 pub mod Holding
 pub mod Scattered

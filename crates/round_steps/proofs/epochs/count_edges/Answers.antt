@@ -28,7 +28,9 @@ returns-clause-sound g c = λ records stand.
     c.gather_all.result c.gather_all.ensures.gathered c.gather_all.ensures.stopped refl records stand
 
 pub returns-clause-damaged : goal.returns-clause-damaged
-returns-clause-damaged g c = counts_names g.P.VertexProgram.rules g.D.Disk.state _ c.gather_all.result.outcome c.gather_all.ensures.stopped refl c.args.graphs.now (λ engine lane. refl)
+returns-clause-damaged g c =
+    counts_names g.P.VertexProgram.rules g.D.Disk.state g.D.M.Meter.faults _ c.args.seat.now.view c.gather_all.new.seat.view c.args.meters.now.items c.gather_all.new.meters.items c.args.spills.now.items c.gather_all.new.spills.items c.gather_all.new.replicas.items
+    c.gather_all.result c.gather_all.ensures.gathered c.gather_all.ensures.stopped refl c.args.graphs.now (λ engine lane. refl)
 
 pub returns-clause-epochs : goal.returns-clause-epochs
 returns-clause-epochs g c =

@@ -33,7 +33,8 @@ returns-clause-sound g c = λ shelf stand.
 
 pub returns-clause-damaged : goal.returns-clause-damaged
 returns-clause-damaged g c =
-    gathers_names g.P.VertexProgram.rules g.D.Disk.state _ c.gather_all.result.outcome c.gather_all.ensures.stopped refl c.args.lanes.now
+    gathers_names g.P.VertexProgram.rules g.D.Disk.state g.D.M.Meter.faults _ c.args.seat.now.view c.gather_all.new.seat.view c.args.meters.now.items c.gather_all.new.meters.items c.args.spills.now.items c.gather_all.new.spills.items c.gather_all.new.replicas.items
+    c.gather_all.result c.gather_all.ensures.gathered c.gather_all.ensures.stopped refl c.args.lanes.now
     (record { lanes = c.args.lanes; shelf = refl; rows_are = refl; index_is = refl; job_is = refl; split_is = refl })
     (c.requires.served _ (record { lanes = c.args.lanes; shelf = refl; rows_are = refl; index_is = refl; job_is = refl; split_is = refl }))
 

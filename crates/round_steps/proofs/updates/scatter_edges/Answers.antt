@@ -23,7 +23,9 @@ returns-clause-sound g c = λ records stand.
     c.scatter_all.result c.scatter_all.ensures.scattered c.scatter_all.ensures.stopped records stand
 
 pub returns-clause-damaged : goal.returns-clause-damaged
-returns-clause-damaged g c = scatters_names g.P.VertexProgram.rules g.D.Disk.state _ c.scatter_all.result.outcome c.scatter_all.ensures.stopped c.args.graphs.now (λ engine lane. refl)
+returns-clause-damaged g c =
+    scatters_names g.P.VertexProgram.rules g.D.Disk.state g.D.M.Meter.faults _ c.args.seat.now.view c.scatter_all.new.seat.view c.args.meters.now.items c.scatter_all.new.meters.items c.args.lanes.now.items c.scatter_all.new.lanes.items c.scatter_all.new.updates
+    c.scatter_all.result c.scatter_all.ensures.scattered c.scatter_all.ensures.stopped c.args.graphs.now (λ engine lane. refl)
 
 pub returns-clause-scattered : goal.returns-clause-scattered
 returns-clause-scattered g c =
