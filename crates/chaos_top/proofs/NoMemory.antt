@@ -17,7 +17,7 @@ use Rattle.endings.specs.declared.ending.Ending.TheVariants.{Memory, Usage}
 use Rattle.run_model.specs.Calls.{Call, IsReady}
 use Rattle.run_model.specs.Runs.{IsRun}
 use Rattle.store_drop.specs.Drops.{IsDrop}
-use Rattle.run_model.proofs.Going.{meters_same, devices_on, rows_on}
+use Rattle.run_model.proofs.Going.{meters_same, store_same, devices_on, rows_on}
 use Rattle.run_model.proofs.Untouched.{prints_none}
 use Rattle.text_run.proofs.Held.{untouched, no_room}
 use Rattle.bench_run.specs.Benches.{IsBench}
@@ -44,20 +44,20 @@ module _ {D M : Type 0} (state : D → DiskState) (lawful : (d : D) → IsDisk (
   not_dropped engines ready = record {
     cause = refl;
     printed = prints_none out out refl;
+    no_writes = refl;
     unread = refl;
+    no_reads = refl;
     seat = refl;
-    ready = ready;
-    meters = meters_same faults meters;
-    beats = (omega arith, omega arith);
+    back = record { ready = ready; store = store_same state store; meters = meters_same faults meters; beats = (omega arith, omega arith) };
     stops = λ b graphs values within stop_graphs stop_values.
         inl (idle_stop state lawful b store.graphs.items graphs stop_graphs, idle_stop state lawful b store.values.items values stop_values);
   }
 
   nothing_done : (command : Option Command) → IsReady state (engines_of command) (moment store meters seat beat) → Promised state faults call Memory command
-  nothing_done None ready = record { refused = inr refl; unread = refl; printed = prints_none out out refl; unchanged = refl }
+  nothing_done None ready = record { refused = inr refl; unread = refl; no_reads = refl; printed = prints_none out out refl; no_writes = refl; unchanged = refl }
   nothing_done (Some (Run job report)) ready = not_run job ready
   nothing_done (Some (Bench job scale edges rng)) ready = not_made job scale edges rng ready
-  nothing_done (Some (Resume engines report)) ready = refused_resume state lawful faults call engines ready (meters_same faults meters) refl refl refl refl refl
+  nothing_done (Some (Resume engines report)) ready = refused_resume state lawful faults call engines ready (meters_same faults meters) refl refl refl refl refl refl
       recover.Memory tt (λ job edges graphs values storable stores tell_graphs tell_values. tt)
   nothing_done (Some (Discard engines)) ready = not_dropped engines ready
 
@@ -70,7 +70,7 @@ module _ {D M : Type 0} (state : D → DiskState) (lawful : (d : D) → IsDisk (
 
   pub outcome_of_refused : (command : Option Command) (now : ℕ) → now ≡ beat → command ≡ None → IsOutcome state faults (begun now) command Usage
   outcome_of_refused command now is none = subst (λ (n : ℕ). IsOutcome state faults (begun n) command Usage) (sym is)
-      (outcome_of state faults call Usage command (subst (Promised state faults call Usage) (sym none) (record { refused = inl refl; unread = refl; printed = prints_none out out refl; unchanged = refl })))
+      (outcome_of state faults call Usage command (subst (Promised state faults call Usage) (sym none) (record { refused = inl refl; unread = refl; no_reads = refl; printed = prints_none out out refl; no_writes = refl; unchanged = refl })))
 
 -- a call may be made under a later beat
 pub ready_later : {D M : Type 0} (state : D → DiskState) (many : ℕ) (store : Store D M) (meters : List M) (seat : View) (b n : ℕ) → b ≤ n → IsReady state many (moment store meters seat b) → IsReady state many (moment store meters seat n)

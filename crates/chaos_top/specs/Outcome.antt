@@ -26,7 +26,9 @@ module _ {D M : Type 0} (state : D → DiskState) (faults : M → ℕ) (call : C
   pub record IsRefusal (ending : Ending) : Type 0 where
     pub refused : (ending ≡ Usage) ⊎ (ending ≡ Memory)
     pub unread : call.text_after ≡ call.text
+    pub no_reads : call.read_faults_after ≡ call.read_faults
     pub printed : Prints call.out call.out_after []
+    pub no_writes : call.write_faults_after ≡ call.write_faults
     pub unchanged : call.after ≡ call.before
 
   -- of words that are refused, and of each command. A further command is a further field.

@@ -6,7 +6,8 @@ use Rattle.ports.specs.Disk.{DiskState, IsDisk, InEveryImage, IsSettled, Changes
 use Rattle.ports.specs.Stops.{Leaves}
 use Rattle.ports.proofs.Parts.{torn_byte}
 use Rattle.ports.proofs.Stops.{by_one, joined}
-use Rattle.ports.proofs.Told.{settled_has}
+use Rattle.ports.specs.Told.{AsTold}
+use Rattle.ports.proofs.Told.{settled_has, told_on}
 use Rattle.store_model.specs.Heads.{IsOpenGraph}
 use Rattle.store_reader.specs.Devices.{IsOpenDevice}
 use Rattle.restart.specs.Dropping.{IsAsBeforeOrShut, Closes}
@@ -28,8 +29,9 @@ torn_gate start c d image is_open torn = by_test (get_or c 0 0 == 165) refl
 
 -- **Closing an open gate leaves the device as it was, or not open.**
 pub closes_open : (number : ℕ) (start synced new : DiskState) → IsDisk start → Changes number Same start synced → IsSettled synced → synced.size ≡ start.size → start.faults ≤ synced.faults
-    → IsOpenDevice synced → Leaves number synced new (After (Torn 0 1) synced) → synced.size ≤ new.size → new.size ≤ max synced.size 1 → new.beat ≡ number → synced.faults ≤ new.faults → Closes number start new
-closes_open number start synced new law changes settled size counted is_open run no_shorter no_longer beat counted' = record {
+    → IsOpenDevice synced → Leaves number synced new (After (Torn 0 1) synced) → AsTold (Torn 0 1) synced.bytes new.bytes
+    → synced.size ≤ new.size → new.size ≤ max synced.size 1 → new.beat ≡ number → synced.faults ≤ new.faults → Closes number start new
+closes_open number start synced new law changes settled size counted is_open run written no_shorter no_longer beat counted' = record {
   leaves = joined number start synced new (IsAsBeforeOrShut start) (After (Torn 0 1) synced)
       (by_one number start synced Same (IsAsBeforeOrShut start) law changes (λ c image. inl image) (λ c image. inl (as_before number start synced changes c image)))
       run
@@ -37,4 +39,5 @@ closes_open number start synced new law changes settled size counted is_open run
   size = omega (arith, is_open.whole);
   beat = λ before. omega arith;
   faults = omega arith;
+  told = λ bytes is. let then = told_on Same start.bytes synced.bytes changes.bytes bytes is in told_on (Torn 0 1) synced.bytes new.bytes written then.0 then.1;
 }

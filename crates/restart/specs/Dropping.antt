@@ -1,5 +1,5 @@
 -- What dropping a store leaves of its devices.
-use Rattle.std.specs.Prelude.{◌≡◌, ◌⊎◌, ℕ, ◌<◌, ◌≤◌, List, []}
+use Rattle.std.specs.Prelude.{◌≡◌, ◌⊎◌, ℕ, ◌<◌, ◌≤◌, List, [], Some}
 use Rattle.ports.specs.Bytes.{CutShort}
 use Rattle.ports.specs.Disk.{DiskState, InEveryImage, After}
 use Rattle.ports.specs.Stops.{Leaves}
@@ -25,11 +25,16 @@ pub record IsEmpty (disk : DiskState) : Type 0 where
   pub size : disk.size ≡ 0
   pub images : InEveryImage disk (λ c. c ≡ [])
 
+-- a device that told its bytes still does
+abbrev pub StillTells : (old new : DiskState) → Type 0
+StillTells old new = (bytes : List ℕ) → old.bytes ≡ Some bytes → (now : List ℕ) × (new.bytes ≡ Some now)
+
 -- What is left of a device whatever the answer: no bytes behind its old end, no later beat, no lower count.
 pub record HandsBack (number : ℕ) (old new : DiskState) : Type 0 where
   pub size : new.size ≤ old.size
   pub beat : new.beat ≤ number
   pub faults : old.faults ≤ new.faults
+  pub told : StillTells old new
 
 -- the gate of a graph device is being closed
 pub record Closes (number : ℕ) (old new : DiskState) : Type 0 where
@@ -37,6 +42,7 @@ pub record Closes (number : ℕ) (old new : DiskState) : Type 0 where
   pub size : new.size ≡ old.size
   pub beat : old.beat ≤ number → new.beat ≤ number
   pub faults : old.faults ≤ new.faults
+  pub told : StillTells old new
 
 -- a device is being emptied
 pub record Empties (number : ℕ) (old new : DiskState) : Type 0 where
@@ -44,3 +50,4 @@ pub record Empties (number : ℕ) (old new : DiskState) : Type 0 where
   pub size : new.size ≤ old.size
   pub beat : old.beat ≤ number → new.beat ≤ number
   pub faults : old.faults ≤ new.faults
+  pub told : StillTells old new

@@ -11,10 +11,11 @@ use Rattle.store_model.specs.Kept.{IsUnprepared}
 use Rattle.epoch_seats.specs.Between.{IsBetweenEpochs}
 use Rattle.restart.specs.Devices.{EachRow, OneRowRose}
 use Rattle.restart.specs.Dropping.{HandsBack}
+use Rattle.round_loop.specs.Keeping.{AreLater, AreLaterRows}
 use Rattle.round_steps.specs.Going.{AreDevices, AreRows, MeterRose}
 use Rattle.endings.specs.declared.ending.Ending.{Ending}
 use Rattle.endings.specs.declared.ending.Ending.TheVariants.{Dropped, DiskFault}
-use Rattle.run_model.specs.Calls.{Call, IsReady, AnyRose}
+use Rattle.run_model.specs.Calls.{Call, IsReady, AnyRose, IsBack}
 use Rattle.store_drop.specs.Drops.{AllEmpty, HasDropCause, IsDrop}
 use Rattle.run_model.proofs.Going.{all_early}
 use Rattle.run_model.proofs.Untouched.{prints_none}
@@ -39,8 +40,15 @@ module _ {D : Type 0} (state : D → DiskState) where
     each = λ w row below. devices_back many before n (get_or olds w row).items (get_or news w row).items (are.each w row below) (back.each w row (omega (arith, below, are.all)));
   }
 
+  -- each in its place
+  devices_later : (n : ℕ) (olds news : List D) → Each state (HandsBack n) olds news → AreLater state olds news
+  devices_later n olds news back = record { many = back.many; faults = λ e d below. (back.each e d below).faults; told = λ e d bytes below. (back.each e d below).told bytes }
+
+  rows_later : (n : ℕ) (olds news : List (Vec D Global)) → EachRow (λ row. row.items) state (HandsBack n) olds news → AreLaterRows state olds news
+  rows_later n olds news back = record { many = back.many; each = λ w row below. devices_later n (get_or olds w row).items (get_or news w row).items (back.each w row below) }
+
 module _ {D M : Type 0} (state : D → DiskState) (faults : M → ℕ) (call : Call D M) (engines : ℕ) (some : 1 ≤ engines) (ready : IsReady state engines call.before) (on : MetersGoOn faults call.before.meters call.after.meters)
-    (unread : call.text_after ≡ call.text) (unprinted : call.out_after ≡ call.out) (same_seat : call.after.seat ≡ call.before.seat)
+    (unread : call.text_after ≡ call.text) (no_reads : call.read_faults_after ≡ call.read_faults) (unprinted : call.out_after ≡ call.out) (no_writes : call.write_faults_after ≡ call.write_faults) (same_seat : call.after.seat ≡ call.before.seat)
     (beat : (call.after.beat ≡ call.before.beat) ⊎ (call.after.beat ≡ call.before.beat + 1))
     (graphs : Each state (HandsBack call.after.beat) call.before.store.graphs.items call.after.store.graphs.items)
     (values : Each state (HandsBack call.after.beat) call.before.store.values.items call.after.store.values.items)
@@ -59,15 +67,28 @@ module _ {D M : Type 0} (state : D → DiskState) (faults : M → ℕ) (call : C
     between = subst IsBetweenEpochs (sym same_seat) ready.between;
   }
 
+  back : IsBack state faults engines 1 call.before call.after
+  back = record {
+    ready = ready_after;
+    store = record {
+      graphs = devices_later state call.after.beat call.before.store.graphs.items call.after.store.graphs.items graphs;
+      values = devices_later state call.after.beat call.before.store.values.items call.after.store.values.items values;
+      lanes = rows_later state call.after.beat call.before.store.lanes.items call.after.store.lanes.items lanes;
+      spills = devices_later state call.after.beat call.before.store.spills.items call.after.store.spills.items spills;
+    };
+    meters = on;
+    beats = elim beat [ inl same ↦ (omega (arith, same), omega (arith, same)) | inr next ↦ (omega (arith, next), omega (arith, next)) ];
+  }
+
   pub is_drop : (ending : Ending) → HasDropCause state faults call ending → IsDrop state faults call engines ending
   is_drop ending cause = record {
     cause = cause;
     printed = prints_none call.out call.out_after unprinted;
+    no_writes = no_writes;
     unread = unread;
+    no_reads = no_reads;
     seat = same_seat;
-    ready = ready_after;
-    meters = on;
-    beats = elim beat [ inl same ↦ (omega (arith, same), omega (arith, same)) | inr next ↦ (omega (arith, next), omega (arith, next)) ];
+    back = back;
     stops = λ b images others within stop_graphs stop_values. stops b images others within (omega (arith, some, ready.graphs.all)) stop_graphs stop_values;
   }
 

@@ -1,14 +1,13 @@
 -- **What giving a store up promises.**
-use Rattle.std.specs.Prelude.{◌≡◌, ◌⊎◌, ℕ, ◌+◌, ◌≤◌, [], map}
+use Rattle.std.specs.Prelude.{◌≡◌, ◌⊎◌, ℕ, [], map}
 use Rattle.std.specs.List.{All}
 use Rattle.ports.specs.Disk.{DiskState}
 use Rattle.ports.specs.Stops.{AreImages}
-use Rattle.ports.specs.Devices.{MetersGoOn}
 use Rattle.restart.specs.Dropping.{IsEmpty}
 use Rattle.store_model.specs.Kept.{IsUnprepared}
 use Rattle.endings.specs.declared.ending.Ending.{Ending}
 use Rattle.endings.specs.declared.ending.Ending.TheVariants.{Dropped, DiskFault, Memory}
-use Rattle.run_model.specs.Calls.{Call, IsReady, AnyRose}
+use Rattle.run_model.specs.Calls.{Call, AnyRose, IsBack}
 use Rattle.run_model.specs.Printing.{Prints}
 use Rattle.run_model.specs.Stops.{AtEachStop}
 
@@ -32,9 +31,9 @@ module _ {D M : Type 0} (state : D → DiskState) (faults : M → ℕ) (call : C
   pub record IsDrop (engines : ℕ) (ending : Ending) : Type 0 where
     pub cause : HasDropCause ending
     pub printed : Prints call.out call.out_after []
+    pub no_writes : call.write_faults_after ≡ call.write_faults
     pub unread : call.text_after ≡ call.text
+    pub no_reads : call.read_faults_after ≡ call.read_faults
     pub seat : call.after.seat ≡ call.before.seat
-    pub ready : IsReady state engines call.after
-    pub meters : MetersGoOn faults call.before.meters call.after.meters
-    pub beats : (call.before.beat ≤ call.after.beat) × (call.after.beat ≤ call.before.beat + 1)
+    pub back : IsBack state faults engines 1 call.before call.after
     pub stops : AtEachStop state call (λ b graphs values. (AreImages (map state call.before.store.graphs.items) graphs × AreImages (map state call.before.store.values.items) values) ⊎ IsUnprepared graphs)

@@ -55,7 +55,7 @@ cause_among one several IsFound recover.DiskFault among cause = among cause
 cause_among one several IsFound recover.Memory among cause = cause
 
 module _ {D M : Type 0} (state : D → DiskState) (lawful : (d : D) → IsDisk (state d)) (faults : M → ℕ) (call : Call D M) (engines : ℕ) (ready : IsReady state engines call.before) (on : MetersGoOn faults call.before.meters call.after.meters)
-    (unread : call.text_after ≡ call.text) (unprinted : call.out_after ≡ call.out) (same_store : call.after.store ≡ call.before.store) (same_seat : call.after.seat ≡ call.before.seat) (same_beat : call.after.beat ≡ call.before.beat) where
+    (unread : call.text_after ≡ call.text) (no_reads : call.read_faults_after ≡ call.read_faults) (unprinted : call.out_after ≡ call.out) (same_store : call.after.store ≡ call.before.store) (same_seat : call.after.seat ≡ call.before.seat) (same_beat : call.after.beat ≡ call.before.beat) where
   at_end : (P : Store D M → ℕ → Type 0) → P call.before.store call.before.beat → P call.after.store call.after.beat
   at_end P p = subst (λ (store : Store D M). P store call.after.beat) (sym same_store) (subst (P call.before.store) (sym same_beat) p)
 
@@ -175,6 +175,7 @@ module _ {D M : Type 0} (state : D → DiskState) (lawful : (d : D) → IsDisk (
     exact = exact_of why found;
     printed = printed_of why;
     unread = unread;
+    no_reads = no_reads;
     epochs = [];
     job = some_job;
     gone = gone some_job (refusal why) (not_complete why);

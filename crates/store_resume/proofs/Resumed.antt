@@ -367,7 +367,7 @@ module _ {D M : Type 0} (state : D → DiskState) (lawful : (d : D) → IsDisk (
         (λ images are. stores stopped_graphs images (idle_graphs (rounds_of ended) runs b stopped_graphs stop_graphs) are)
 
   -- **The job came to a finish.**
-  module _ (unread : call.text_after ≡ call.text)
+  module _ (unread : call.text_after ≡ call.text) (no_reads : call.read_faults_after ≡ call.read_faults)
       (of_job : (given : Job) (edges : List Edge) (graphs values : List (List ℕ)) → IsStorable given edges → StoreOf given edges graphs values → Tell state call.before.store.graphs.items graphs → Tell state call.before.store.values.items values → Resumes given edges values found) where
     told_store : (given : Job) (edges : List Edge) (graphs values : List (List ℕ)) → Tell state call.before.store.graphs.items graphs → Tell state call.before.store.values.items values
         → ((graph_images images : List (List ℕ)) → AreImages (map state call.before.store.graphs.items) graph_images → AreImages (map state call.before.store.values.items) images → StoreOf given edges graph_images images) → StoreOf given edges graphs values
@@ -382,6 +382,7 @@ module _ {D M : Type 0} (state : D → DiskState) (lawful : (d : D) → IsDisk (
       exact = λ graphs values tell_graphs tell_values others check fails. absurd (recovered_has_none graphs values found check (recovered graphs values tell_graphs tell_values) fails);
       printed = printed_of ended prints;
       unread = unread;
+      no_reads = no_reads;
       epochs = runs.epochs;
       job = job;
       gone = gone_of ended runs;
@@ -408,7 +409,7 @@ module _ {D M : Type 0} (state : D → DiskState) (lawful : (d : D) → IsDisk (
     resumed ending (inl none) =
         let on_still = subst (MetersGoOn faults call.before.meters) (sym (ap (λ (m : Moment D M). m.meters) none.unchanged)) on in
         subst (IsResume state faults call engines) (sym none.memory)
-        (refused_resume state lawful faults call engines ready on_still unread none.unprinted (ap (λ (m : Moment D M). m.store) none.unchanged) (ap (λ (m : Moment D M). m.seat) none.unchanged) (ap (λ (m : Moment D M). m.beat) none.unchanged)
+        (refused_resume state lawful faults call engines ready on_still unread no_reads none.unprinted (ap (λ (m : Moment D M). m.store) none.unchanged) (ap (λ (m : Moment D M). m.seat) none.unchanged) (ap (λ (m : Moment D M). m.beat) none.unchanged)
         recover.Memory tt (λ given edges graphs values storable stores tell_graphs tell_values. tt))
     resumed ending (inr went) = subst (IsResume state faults call engines) (sym went.1.told) (finished_resume went.0 went.1.rounds went.1.printed went.1.cause)
 

@@ -168,6 +168,7 @@ module _ {D M : Type 0} (state : D → DiskState) (faults : M → ℕ) (call : C
     pub exact : OfBytes (λ graphs values. (fault : damage.Fault) → HasFault graphs values fault → Comes (told_as fault) ending)
     pub printed : HasPrintedNothing ending
     pub unread : call.text_after ≡ call.text
+    pub no_reads : call.read_faults_after ≡ call.read_faults
     pub epochs : List Epoch
     pub job : Job
     pub gone : HasGone job call.before.seat call.after.seat ending epochs

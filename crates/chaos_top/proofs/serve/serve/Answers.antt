@@ -43,7 +43,7 @@ returns-in-Discard-clause-ready g c =
     let read = c.in-Discard in
     let end = c.give_up.new in
     ready_read g.D.Disk.state (moment end.store end.meters.items c.args.seat.now.view end.beat) c.args.command.now (Discard read.engines) read.is
-    (c.give_up.ensures.drop (g.S.Source.left c.args.source.now) (g.S.Source.faults c.args.source.now) (g.K.Sink.written c.args.out.now) (g.K.Sink.faults c.args.out.now) c.args.seat.now.view c.requires.ready.between).ready
+    (c.give_up.ensures.drop (g.S.Source.left c.args.source.now) (g.S.Source.faults c.args.source.now) (g.K.Sink.written c.args.out.now) (g.K.Sink.faults c.args.out.now) c.args.seat.now.view c.requires.ready.between).back.ready
 
 pub returns-in-Discard-clause-outcome : goal.returns-in-Discard-clause-outcome
 returns-in-Discard-clause-outcome g c =

@@ -10,7 +10,7 @@ returns-in_err-write_synced-clause-closes g c =
     let gate : IsTrue c.in_ok-is_open.field-0 = search rules in
     closes_open c.args.beat.now (g.D.Disk.state c.args.disk.now) (g.D.Disk.state c.sync.new.self) (g.D.Disk.state c.write_synced.new.disk)
     (disks.lawful c.args.disk.now) sync.changes c.in_ok-sync.ensures.settled sync.size sync.cause.later (c.in_ok-is_open.ensures.open gate)
-    write.any_moment write.no_shorter write.no_longer write.beat write.cause.later
+    write.any_moment write.bytes write.no_shorter write.no_longer write.beat write.cause.later
 
 pub returns-in_ok-write_synced-clause-closes : goal.returns-in_ok-write_synced-clause-closes
 returns-in_ok-write_synced-clause-closes g c =
@@ -20,4 +20,4 @@ returns-in_ok-write_synced-clause-closes g c =
     let gate : IsTrue c.in_ok-is_open.field-0 = search rules in
     closes_open c.args.beat.now (g.D.Disk.state c.args.disk.now) (g.D.Disk.state c.sync.new.self) (g.D.Disk.state c.write_synced.new.disk)
     (disks.lawful c.args.disk.now) sync.changes c.in_ok-sync.ensures.settled sync.size sync.cause.later (c.in_ok-is_open.ensures.open gate)
-    write.any_moment write.no_shorter write.no_longer write.beat write.cause.later
+    write.any_moment write.bytes write.no_shorter write.no_longer write.beat write.cause.later

@@ -36,7 +36,7 @@ returns-in-Ok g c = record {
         meters = c.requires.meters;
         between = between;
       } in
-      dropped g.D.Disk.state faults call k c.requires.engines.0 ready (meters_after faults meters k below own c.drop_store.new.meter c.index_mut.ensures.value end.later) refl refl refl
+      dropped g.D.Disk.state faults call k c.requires.engines.0 ready (meters_after faults meters k below own c.drop_store.new.meter c.index_mut.ensures.value end.later) refl refl refl refl refl
       end.beat end.back_graphs end.back_values end.back_lanes end.back_spills end.stops
       (record { graphs = end.empty_graphs; values = end.empty_values; lanes = end.empty_lanes; spills = end.empty_spills });
 }
@@ -70,7 +70,7 @@ returns-in-Err g c = record {
         meters = c.requires.meters;
         between = between;
       } in
-      not_dropped g.D.Disk.state faults call k c.requires.engines.0 ready (meters_after faults meters k below own c.drop_store.new.meter c.index_mut.ensures.value end.later) refl refl refl
+      not_dropped g.D.Disk.state faults call k c.requires.engines.0 ready (meters_after faults meters k below own c.drop_store.new.meter c.index_mut.ensures.value end.later) refl refl refl refl refl
       end.beat end.back_graphs end.back_values end.back_lanes end.back_spills end.stops
       (Rose (faults own) (faults c.drop_store.new.meter)) (meter_rose faults meters k below own c.drop_store.new.meter c.index_mut.ensures.value) end.cause;
 }

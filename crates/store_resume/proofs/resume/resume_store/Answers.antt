@@ -38,7 +38,7 @@ returns-in-Ok-Found-clause-resume g c text read_faults =
     resumed_as g.D.Disk.state disks.lawful faults call (slice_set meters k c.recover.new.meter) k read.field-0 read.ensures.formed
     (read.ensures.engines ∙ c.requires.ready.graphs.all) c.requires.ready
     (meters_after faults meters k below c.index_mut.result.now c.recover.new.meter c.index_mut.ensures.value read.ensures.later)
-    read.ensures.recovered refl read.ensures.of_job (Found read.job read.index read.round read.changed) read.field-0-is end.result (end.ensures.goes_on text read_faults)
+    read.ensures.recovered refl refl read.ensures.of_job (Found read.job read.index read.round read.changed) read.field-0-is end.result (end.ensures.goes_on text read_faults)
 
 pub returns-in-Ok-Fresh-clause-resume : goal.returns-in-Ok-Fresh-clause-resume
 returns-in-Ok-Fresh-clause-resume g c text read_faults =
@@ -64,7 +64,7 @@ returns-in-Ok-Fresh-clause-resume g c text read_faults =
     resumed_as g.D.Disk.state disks.lawful faults call (slice_set meters k c.recover.new.meter) k read.field-0 read.ensures.formed
     (read.ensures.engines ∙ c.requires.ready.graphs.all) c.requires.ready
     (meters_after faults meters k below c.index_mut.result.now c.recover.new.meter c.index_mut.ensures.value read.ensures.later)
-    read.ensures.recovered refl read.ensures.of_job (Fresh read.job read.index) read.field-0-is end.result (end.ensures.goes_on text read_faults)
+    read.ensures.recovered refl refl read.ensures.of_job (Fresh read.job read.index) read.field-0-is end.result (end.ensures.goes_on text read_faults)
 
 pub returns-in-Err-clause-resume : goal.returns-in-Err-clause-resume
 returns-in-Err-clause-resume g c text read_faults =
@@ -90,7 +90,7 @@ returns-in-Err-clause-resume g c text read_faults =
       after = moment store after c.args.seat.now.view c.args.beat.now;
     } in
     subst (λ (ending : Ending). IsResume state faults call k ending) (sym c.refusal.ensures)
-    (refused_resume state disks.lawful faults call k c.requires.ready (meters_after faults meters k below own c.recover.new.meter c.index_mut.ensures.value c.in-Err.ensures.later) refl refl refl refl refl c.in-Err.fault
+    (refused_resume state disks.lawful faults call k c.requires.ready (meters_after faults meters k below own c.recover.new.meter c.index_mut.ensures.value c.in-Err.ensures.later) refl refl refl refl refl refl c.in-Err.fault
     (cause_among (Rose (faults own) (faults c.recover.new.meter)) (MeterRose faults meters after)
     (λ fault. (graphs values : List (List ℕ)) → Tell state store.graphs.items graphs → Tell state store.values.items values → HasFault graphs values fault) c.in-Err.fault
     (meter_rose faults meters k below own c.recover.new.meter c.index_mut.ensures.value) c.in-Err.ensures.cause)

@@ -1,0 +1,14 @@
+use Rattle.std.proofs.Common.{◌<◌, ◌≤◌, length, rules, arith}
+use Rattle.std.proofs.lemmas.Grind.{common_steps}
+use Rattle.restart.proofs.Devices.{one_done}
+use Rattle.restart.proofs.dropping.close_all.Goals as goal
+
+pub loop-disk-preserved : goal.loop-disk-preserved
+loop-disk-preserved g c =
+    let within : c.loop-disk.disk-index < length c.loop-disk.graphs = first_of (omega arith, search rules, grind (arith, common_steps)) in
+    let before = c.loop-disk.invariant.later in
+    let closed = c.close_gate.ensures.cause.later in
+    record {
+      done = one_done _ _ c.loop-disk.disk-index c.args.graphs.now c.loop-disk.graphs c.disk-item.result c.close_gate.new.disk within c.loop-disk.invariant.done c.close_gate.ensures.closes c.in_ok-close_gate.ensures.shut;
+      later = omega (arith, before, closed);
+    }
