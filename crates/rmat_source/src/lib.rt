@@ -5,12 +5,14 @@
 //! is written to it. Neither ever fails, takes memory or touches anything outside.
 #![tactic(auto)]
 
+mod laws;
 mod line;
 mod summary;
 mod text;
 mod words;
 mod written;
 
+pub use laws::made_text_is_well_formed;
 pub use summary::Summary;
 pub use text::RmatText;
 
