@@ -9,11 +9,10 @@ use Rattle.std.proofs.lemmas.Bool.Decides.{nat_tests}
 use Rattle.std.proofs.lemmas.List.{take-append-drop}
 use Rattle.std.proofs.lemmas.List.Elements.{All-from_recursion, All-append, All-cons}
 use Rattle.std.proofs.lemmas.List.Splits.{slice_split_at, slice_split_none}
-use Rattle.graph_model.specs.declared.edge.Edge.{Edge}
 use Rattle.graph_model.specs.declared.edge.Meaning.TheVariants.{One}
 use Rattle.graph_model.specs.declared.edge.TextFault.TheVariants.{BadLine}
 use Rattle.graph_model.specs.declared.edge.TheConstants.{MAX_WEIGHT}
-use Rattle.graph_model.specs.EdgeText.{is_line_feed, parts, all_but_last, last_of, ended_lines, last_part, last_line, lines, is_separator, has_bytes, fields, begins_comment, meaning_of_fields, meaning, first_malformed, refused_for, lines_within, refusal}
+use Rattle.graph_model.specs.EdgeText.{is_line_feed, parts, all_but_last, last_of, ended_lines, last_part, last_line, lines, is_separator, fields, begins_comment, meaning_of_fields, meaning, first_malformed, refused_for, lines_within, refusal}
 use Rattle.graph_model.proofs.TextLemmas.{has_parts, split_parts, ended_lines-append, first_malformed-append_some}
 use Rattle.rmat_source.proofs.NumberFields.{IsFieldOf, number_read}
 

@@ -12,7 +12,7 @@ mod text;
 mod words;
 mod written;
 
-pub use laws::made_text_is_well_formed;
+pub use laws::{made_text_has_the_edges_drawn, made_text_is_well_formed};
 pub use summary::Summary;
 pub use text::RmatText;
 
