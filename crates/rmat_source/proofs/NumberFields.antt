@@ -24,7 +24,7 @@ is_digit n = grind (arith, nat_tests)
 value_of_digit : (n : ℕ) → digit_value (last_digit n) ≡ n % 10
 value_of_digit n = grind (arith, nat_tests)
 
--- the digits before others, however many are written at most
+-- so many digits at most, written before others, are digits
 digits_before : (k n : ℕ) (behind : List ℕ) → list_all is_ascii_digit behind ≡ true → list_all is_ascii_digit (digits_onto k 10 false n behind) ≡ true
 digits_before zero n behind are = are
 digits_before (suc k) n behind are =
@@ -43,7 +43,7 @@ some_written k n =
     cond_both (n / 10 == 0) (last_digit n ∷ []) (digits_onto k 10 false (n / 10) (last_digit n ∷ [])) (λ ds. has_bytes ds ≡ true)
     (λ e. refl) (λ e. some_before k (n / 10) (last_digit n) [])
 
--- where not all digits are written, the value is less
+-- where not all of them are written, the value is less
 value_before : (k n : ℕ) (behind : List ℕ) → (m : ℕ) × (m ≤ n) × (digits_value 10 (digits_onto k 10 false n behind) ≡ digits_value_after 10 m behind)
 value_before zero n behind = (0, omega arith, refl)
 value_before (suc k) n behind =

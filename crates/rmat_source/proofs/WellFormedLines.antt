@@ -16,7 +16,7 @@ use Rattle.graph_model.specs.EdgeText.{is_line_feed, parts, all_but_last, last_o
 use Rattle.graph_model.proofs.TextLemmas.{has_parts, split_parts, ended_lines-append, first_malformed-append_some}
 use Rattle.rmat_source.proofs.NumberFields.{IsFieldOf, number_read}
 
--- Digits lack each byte that is none.
+-- Of digits no byte passes a test that no digit passes.
 digits_lack : (p : ℕ → Bool) → ((b : ℕ) → is_ascii_digit b ≡ true → p b ≡ false) → (field : List ℕ) → list_all is_ascii_digit field ≡ true
     → AllByRecursion (λ b. p b ≡ false) field
 digits_lack p other [] are = tt
@@ -67,14 +67,14 @@ module _ (s d w : List ℕ) (a b c : ℕ) (is_s : IsFieldOf a s) (is_d : IsField
   fields_are : fields (three_fields s d w) ≡ s ∷ d ∷ w ∷ []
   fields_are = rw split_fields (rw (is_s.some, is_d.some, is_w.some) refl)
 
--- no byte of a line is a carriage return
+-- a line without carriage return stays as it is
 strip_none : (line : List ℕ) → All (λ b. (b == 13) ≡ false) line → strip_carriage_return line ≡ line
 strip_none [] lacks = refl
 strip_none (b ∷ bs) lacks =
     let last : (slice_index (b ∷ bs) (length (b ∷ bs) - 1) == 13) ≡ false = lacks (length (b ∷ bs) - 1) 0 (omega arith) in
     rw last refl
 
--- **They say the edge of their numbers.**
+-- **They say the edge of their values.**
 pub three_fields_say : (vertices a b c : ℕ) (s d w : List ℕ) → IsFieldOf a s → IsFieldOf b d → IsFieldOf c w
     → a < vertices → b < vertices → c < MAX_WEIGHT + 1
     → meaning vertices (three_fields s d w) ≡ One (record { src = digits_value 10 s; dst = digits_value 10 d; weight = digits_value 10 w })
