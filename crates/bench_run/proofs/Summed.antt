@@ -1,13 +1,14 @@
 -- A bench, by the run that was made of it and by how the ending of that is told on.
-use Rattle.std.proofs.Common.{◌≡◌, inl, inr, ℕ, List, [], Some, refl, sym, subst, arith}
+use Rattle.std.proofs.Common.{◌≡◌, inl, inr, ℕ, ◌^◌, ◌≤◌, List, [], Some, refl, sym, subst, arith}
 use Rattle.ports.specs.Disk.{DiskState}
 use Rattle.ports.specs.Faults.{Rose}
+use Rattle.graph_model.specs.declared.edge.TextFault.TheVariants as fault
 use Rattle.graph_model.specs.declared.job.Job.{Job}
-use Rattle.graph_model.specs.Answer.{IsAnswer}
+use Rattle.graph_model.specs.Answer.{IsAnswer, refusal_of}
 use Rattle.rmat_source.specs.Rmat.{rmat_text}
 use Rattle.endings.specs.declared.ending.Report.{Report}
 use Rattle.endings.specs.declared.ending.Ending.{Ending}
-use Rattle.endings.specs.declared.ending.Ending.TheVariants.{Answered, ReadFault, WriteFault}
+use Rattle.endings.specs.declared.ending.Ending.TheVariants.{Answered, BadLine, ReadFault, WriteFault}
 use Rattle.run_model.specs.Calls.{Call, Tells}
 use Rattle.run_model.specs.Printing.{Prints}
 use Rattle.run_model.specs.Runs.{IsRun}
@@ -85,8 +86,17 @@ module _ {D M : Type 0} (state : D → DiskState) (faults : M → ℕ) (job : Jo
     no_read_fault_of ReadFault ending run told is = omega (arith, run.cause)
     no_read_fault_of made ending run told is = cc
 
-    pub is_bench : (made ending : Ending) → Made made → ToldOn made ending → call.text_after ≡ call.text → call.read_faults_after ≡ call.read_faults → IsBench state faults job scale edges rng call ending
-    is_bench made ending run told_on unread no_reads = record {
+    -- a line is called malformed only where the job refuses the made text for it
+    pub no_bad_line_of : (made ending : Ending) → Made made → ToldOn made ending → ((line : ℕ) → refusal_of job (rmat_text scale edges rng) ≡ Some (fault.BadLine line) → ⊥)
+        → (line : ℕ) → ending ≡ BadLine line → ⊥
+    no_bad_line_of (Answered report) ending run (inl up) well_formed line is = cc
+    no_bad_line_of (Answered report) ending run (inr cut) well_formed line is = cc
+    no_bad_line_of (BadLine other) ending run told well_formed line is = well_formed other (run.cause (rmat_text scale edges rng) refl)
+    no_bad_line_of made ending run told well_formed line is = cc
+
+    pub is_bench : (made ending : Ending) → Made made → ToldOn made ending → (2 ^ scale ≤ job.vertices → (line : ℕ) → ending ≡ BadLine line → ⊥)
+        → call.text_after ≡ call.text → call.read_faults_after ≡ call.read_faults → IsBench state faults job scale edges rng call ending
+    is_bench made ending run told_on no_bad_line unread no_reads = record {
       left = left;
       printed = printed;
       made = made;
@@ -95,6 +105,7 @@ module _ {D M : Type 0} (state : D → DiskState) (faults : M → ℕ) (job : Jo
       written = written_by made ending run told_on;
       write_fault = write_fault_of made ending run told_on;
       no_read_fault = no_read_fault_of made ending run told_on;
+      no_bad_line = no_bad_line;
       unread = unread;
       no_reads = no_reads;
     }

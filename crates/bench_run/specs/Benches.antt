@@ -1,5 +1,5 @@
 -- **What a run of a job over a made text promises.**
-use Rattle.std.specs.Prelude.{◌≡◌, ◌⊎◌, ℕ, List, [], Some}
+use Rattle.std.specs.Prelude.{◌≡◌, ◌⊎◌, ℕ, ◌^◌, ◌≤◌, List, [], Some}
 use Rattle.ports.specs.Disk.{DiskState}
 use Rattle.ports.specs.Faults.{Rose}
 use Rattle.ports.specs.Sink.{AppendsFront}
@@ -13,7 +13,7 @@ use Rattle.graph_model.specs.Answer.{IsAnswer}
 use Rattle.rmat_source.specs.Rmat.{rmat_text}
 use Rattle.endings.specs.declared.ending.Report.{Report}
 use Rattle.endings.specs.declared.ending.Ending.{Ending}
-use Rattle.endings.specs.declared.ending.Ending.TheVariants.{Answered, WriteFault, ReadFault}
+use Rattle.endings.specs.declared.ending.Ending.TheVariants.{Answered, BadLine, WriteFault, ReadFault}
 use Rattle.run_model.specs.Calls.{Call, OfTold}
 use Rattle.run_model.specs.Printing.{Prints}
 use Rattle.run_model.specs.Runs.{IsRun}
@@ -89,8 +89,8 @@ module _ {D M : Type 0} (state : D → DiskState) (faults : M → ℕ) (job : Jo
   HasPrintedSummary WriteFault = OfTold state call.before.store (λ graphs. PrintsSummaryFront)
   HasPrintedSummary _ = Prints call.out call.out_after []
 
-  -- **A bench**: a run over the text of the number, with all that is promised of one, whose answer is summed up. The source
-  -- is not read.
+  -- **A bench**: a run over the text of the number, with all that is promised of one, whose answer is summed up. No line is
+  -- called malformed where the graph has room for the vertices of the text, and the source is not read.
   pub record IsBench (ending : Ending) : Type 0 where
     pub left : List ℕ
     pub printed : List ℕ
@@ -100,5 +100,6 @@ module _ {D M : Type 0} (state : D → DiskState) (faults : M → ℕ) (job : Jo
     pub written : HasPrintedSummary ending
     pub write_fault : ending ≡ WriteFault → Rose call.write_faults call.write_faults_after
     pub no_read_fault : ¬ (ending ≡ ReadFault)
+    pub no_bad_line : 2 ^ scale ≤ job.vertices → (line : ℕ) → ¬ (ending ≡ BadLine line)
     pub unread : call.text_after ≡ call.text
     pub no_reads : call.read_faults_after ≡ call.read_faults

@@ -10,7 +10,7 @@ use chunk_cursor::{CursorSeat, CursorTable};
 use endings::Ending;
 use graph_model::Job;
 use ports::{Beat, Disk, Gate, Sink, write_all};
-use rmat_source::{RmatText, Summary};
+use rmat_source::{RmatText, Summary, made_text_is_well_formed};
 use std::alloc::Global;
 use std::thread::Threads;
 use store_reader::Store;
@@ -55,6 +55,7 @@ pub fn run_bench<R: Threads + Sync, K: Sink, D: Disk, G: Gate + Sync>(
       after = moment store.new meters.new.items seat.new.view beat.new;
     }) result }
 {
+    made_text_is_well_formed();
     let mut text = RmatText::new(scale, edges, rng);
     let mut summary = Summary::new();
     let ending = run_text(

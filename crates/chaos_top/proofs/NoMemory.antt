@@ -38,7 +38,7 @@ module _ {D M : Type 0} (state : D → DiskState) (lawful : (d : D) → IsDisk (
       let whole = rmat_text scale edges rng in
       is_bench state faults job scale edges rng call whole [] Memory Memory
       (no_room state lawful faults job (Some whole) (Some []) 0 0 store meters meters seat beat ready (meters_same faults meters))
-      (passed_on state faults job scale edges rng call [] Memory (λ report is. cc) (prints_none out out refl)) refl refl
+      (passed_on state faults job scale edges rng call [] Memory (λ report is. cc) (prints_none out out refl)) (λ fits line is. cc) refl refl
 
   not_dropped : (engines : ℕ) → IsReady state engines (moment store meters seat beat) → IsDrop state faults call engines Memory
   not_dropped engines ready = record {

@@ -1,2 +1,5 @@
 pub mod Giving
+pub mod MadeLines
+pub mod NumberFields
+pub mod WellFormedLines
 pub mod WorkedExamples

@@ -1,3 +1,4 @@
+pub mod Edges
 pub mod Marks
 pub mod Rmat
 pub mod Words

@@ -2,12 +2,13 @@
 use Rattle.std.proofs.Common.{◌∙◌, inl, inr, ℕ, List, refl, subst}
 use Rattle.ports.specs.Sink.{AppendsFront}
 use Rattle.ports.specs.Told.{AsTold}
+use Rattle.graph_model.specs.EdgeText.{text_limit}
 use Rattle.round_loop.specs.Keeping.{moment}
 use Rattle.endings.specs.declared.ending.Ending.TheVariants.{Answered, WriteFault}
 use Rattle.run_model.specs.Calls.{Call}
 use Rattle.run_model.specs.Printing.{Prints}
 use Rattle.run_model.proofs.Untouched.{prints_none}
-use Rattle.bench_run.proofs.Summed.{is_bench, is_made, passed_on}
+use Rattle.bench_run.proofs.Summed.{is_bench, is_made, no_bad_line_of, passed_on}
 use Rattle.bench_run.proofs.bench.run_bench.Goals as goal
 
 pub returns-in_default : goal.returns-in_default
@@ -31,9 +32,11 @@ returns-in_default g c = record {
         before = moment c.args.store.now c.args.meters.now.items c.args.seat.now.view c.args.beat.now;
         after = moment end.new.store end.new.meters.items end.new.seat.view end.new.beat;
       } in
-      is_bench state faults job c.args.scale c.args.edges c.args.rng call end.new.source end.new.out end.result end.result
-      (is_made state faults job c.args.scale c.args.edges c.args.rng call end.new.source end.new.out c.new-text.result c.new-summary.result end.result c.new-text.ensures c.new-summary.ensures end.ensures.run)
-      (passed_on state faults job c.args.scale c.args.edges c.args.rng call end.new.out end.result c.in_default.not-Answered (prints_none out out refl)) refl refl;
+      let made = is_made state faults job c.args.scale c.args.edges c.args.rng call end.new.source end.new.out c.new-text.result c.new-summary.result end.result c.new-text.ensures c.new-summary.ensures end.ensures.run in
+      let told = passed_on state faults job c.args.scale c.args.edges c.args.rng call end.new.out end.result c.in_default.not-Answered (prints_none out out refl) in
+      is_bench state faults job c.args.scale c.args.edges c.args.rng call end.new.source end.new.out end.result end.result made told
+      (λ fits. no_bad_line_of state faults job c.args.scale c.args.edges c.args.rng call end.new.source end.new.out end.result end.result made told
+      (λ line. c.made_text_is_well_formed.ensures job.vertices (text_limit job.chunk) c.args.scale c.args.edges c.args.rng line fits)) refl refl;
 }
 
 pub returns-in-Ok-clause-bench : goal.returns-in-Ok-clause-bench
@@ -62,7 +65,7 @@ returns-in-Ok-clause-bench g c text reads =
     (inl (record {
       answered = refl;
       prints = subst (λ (piece : List ℕ). Prints out out_after piece) (c.deref.ensures.0 ∙ c.summary_lines-lines.ensures) c.in-Ok.ensures.whole;
-    })) refl refl
+    })) (λ fits line is. cc) refl refl
 
 pub returns-in-Err-clause-bench : goal.returns-in-Err-clause-bench
 returns-in-Err-clause-bench g c text reads =
@@ -91,4 +94,4 @@ returns-in-Err-clause-bench g c text reads =
       told = refl;
       rose = c.in-Err.ensures.cause.failed;
       front = subst (λ (piece : List ℕ). AsTold (AppendsFront piece) out out_after) (c.deref.ensures.0 ∙ c.summary_lines-lines.ensures) c.in-Err.ensures.front;
-    })) refl refl
+    })) (λ fits line is. cc) refl refl
