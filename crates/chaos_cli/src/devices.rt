@@ -2,7 +2,7 @@
 ghost use Rattle.std.specs.Prelude.{◌≡◌, ◌+◌, ◌≤◌, [], ◌∷◌, ◌++◌, length, IfOk, OnOk};
 ghost use Rattle.real_devices.specs.FileState.{untold};
 ghost use Rattle.round_steps.specs.Going.{AreDevices, AreRows};
-ghost use Rattle.chaos_cli.specs.Files.{AreFiles};
+ghost use Rattle.chaos_cli.specs.Files.{AreFiles, AreNumbered, AreNumberedRows};
 
 use itoa::Buffer;
 use real_devices::{CountMeter, FileDisk, OpenFault, make_folder, sync_folder};
@@ -68,13 +68,15 @@ pub fn make_meters<R: Files<File = File> + Clone + Drop + Send + Sync>(
 }
 
 /// The lanes of each worker.
+#[tactic(auto, using(crate::proofs::Numbers::numbered_rows_more))]
 fn open_lanes<R: Files<File = File> + Clone + Drop + Send + Sync>(
     rt: &R,
     alloc: Global,
     engines: u32,
 ) -> Result<Vec<Vec<FileDisk<R>>>, OpenFault>
     requires { engines ≤ 8 }
-    ensures { IfOk result (λ lanes. AreRows untold engines 0 lanes.items) }
+    ensures rows { IfOk result (λ lanes. AreRows untold engines 0 lanes.items) }
+    ensures numbers { IfOk result (λ lanes. AreNumberedRows 16 lanes.items) }
 {
     let mut lanes = Vec::new(alloc);
     'workers: for worker in 0..engines {
@@ -94,7 +96,8 @@ fn open_files<R: Files<File = File> + Clone + Drop + Send + Sync>(
     engines: u32,
 ) -> Result<Vec<FileDisk<R>>, OpenFault>
     requires { first + engines ≤ 100 }
-    ensures { IfOk result (λ disks. AreDevices untold engines 0 disks.items) }
+    ensures devices { IfOk result (λ disks. AreDevices untold engines 0 disks.items) }
+    ensures numbers { IfOk result (λ disks. AreNumbered first disks.items) }
 {
     let mut disks = Vec::new(alloc);
     'engines: for engine in 0..engines {
