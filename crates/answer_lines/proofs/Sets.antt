@@ -23,8 +23,7 @@ use Rattle.partitioner.proofs.Ranges.{first_vertex-next}
 use Rattle.store_model.specs.Slots.{slot_start, slot_values, set_bytes, value_bytes, values_bytes}
 use Rattle.store_model.specs.Kept.{values_of}
 use Rattle.store_reader.specs.Reading.{own_in, master_in, len_in, before_in}
-use Rattle.checkpoint.proofs.ByteLemmas.{length-values_bytes}
-use Rattle.checkpoint.proofs.ValueSteps.{same_values_bytes, told_is}
+use Rattle.store_model.proofs.ValueBytes.{length-values_bytes, same_values_bytes, told_is}
 use Rattle.answer_lines.specs.Values.{IsSet, values_in}
 
 -- the values of consecutive vertices

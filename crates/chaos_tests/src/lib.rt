@@ -1,8 +1,8 @@
-//! Tests of the top call on devices in memory: what lines of words at the borders mean, rows of words and texts with what
-//! must be printed, calls in turn on one
-//! store, stores of which a byte was changed, each call of the outside that fails, a stop at every moment of a call and once
-//! more in the resume, chunks placed by many seeds, a device that changes an edge between two rounds, and a large run beside
-//! the plain engine. It has no code of its own, promises nothing and touches disks in memory alone.
+//! Tests of the top call on devices in memory: what lines of words at the borders mean, rows of words and texts
+//! with what must be printed, what a report counts, calls in turn on one store, stores of which a byte was changed,
+//! each call of the outside that fails, a stop at every moment of a call and once more in the resume, two engines
+//! that meet in a phase, chunks placed by many seeds, a device that changes an edge between two rounds, and a large
+//! run beside the plain engine. It has no code of its own, promises nothing and touches disks in memory alone.
 #![tactic(auto)]
 
 #[cfg(test)]

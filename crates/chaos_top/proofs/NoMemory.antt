@@ -17,7 +17,8 @@ use Rattle.endings.specs.declared.ending.Ending.TheVariants.{Memory, Usage}
 use Rattle.run_model.specs.Calls.{Call, IsReady}
 use Rattle.run_model.specs.Runs.{IsRun}
 use Rattle.store_drop.specs.Drops.{IsDrop}
-use Rattle.run_model.proofs.Going.{meters_same, store_same, devices_on, rows_on}
+use Rattle.round_steps.proofs.Kept.{meters_same}
+use Rattle.run_model.proofs.Going.{store_same, devices_on, rows_on}
 use Rattle.run_model.proofs.Untouched.{prints_none}
 use Rattle.text_run.proofs.Held.{untouched, no_room}
 use Rattle.bench_run.specs.Benches.{IsBench}

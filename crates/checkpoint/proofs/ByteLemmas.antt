@@ -1,5 +1,5 @@
 -- Values that are written one behind the other.
-use Rattle.std.proofs.Common.{◌≡◌, ℕ, ◌+◌, ◌*◌, ◌<◌, ◌≤◌, List, [], ◌∷◌, ◌++◌, length, take, drop, get_or, refl, sym, ◌∙◌, ap, arith, length-append, append_assoc}
+use Rattle.std.proofs.Common.{◌≡◌, ℕ, ◌+◌, ◌*◌, ◌<◌, ◌≤◌, List, [], ◌∷◌, ◌++◌, length, take, drop, get_or, sym, ◌∙◌, ap, arith, length-append, append_assoc}
 use Rattle.std.specs.Int.{to_be_bytes, w64}
 use Rattle.std.proofs.lemmas.List.{take_at, drop_at, drop-drop, take_more, length-take-le, append-nil}
 use Rattle.std.proofs.lemmas.Grind.{flat_map-append}
@@ -8,11 +8,6 @@ use Rattle.ports.specs.Bytes.{after_write}
 use Rattle.ports.proofs.Parts.{take-after_write}
 use Rattle.store_model.specs.Slots.{value_bytes, values_bytes}
 use Rattle.store_model.proofs.SlotLemmas.{length-value_bytes}
-
-pub length-values_bytes : (values : List Value) → length (values_bytes values) ≡ 16 * length values
-length-values_bytes [] = refl
-length-values_bytes (x ∷ xs) =
-    omega (arith, length-append (value_bytes x) (values_bytes xs), length-value_bytes x, length-values_bytes xs)
 
 -- two pieces, one behind the other, as one
 pub writes_join : (at : ℕ) (a b old : List ℕ) → at + length a + length b ≤ length old → after_write (at + length a) b (after_write at a old) ≡ after_write at (a ++ b) old

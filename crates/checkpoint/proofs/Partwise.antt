@@ -30,7 +30,7 @@ use Rattle.store_reader.specs.Reading.{own_in, master_in, len_in, before_in}
 use Rattle.checkpoint.specs.Applied.{sums_in, values_in, applied, changes, changed_by}
 use Rattle.checkpoint.specs.SlotStates.{HasExactSize, SameOther, WhileClosing, WhileWriting}
 use Rattle.checkpoint.specs.Storing.{StandBefore, EngineStandsBefore, EngineBefore, StoresPartition, StoresFront}
-use Rattle.checkpoint.proofs.ByteLemmas.{length-values_bytes}
+use Rattle.store_model.proofs.ValueBytes.{length-values_bytes}
 use Rattle.checkpoint.proofs.SlotSteps.{writing_on}
 use Rattle.checkpoint.proofs.ValueSteps.{length-start_each, length-next_each}
 

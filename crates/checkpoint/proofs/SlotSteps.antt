@@ -12,6 +12,7 @@ use Rattle.ports.proofs.Stops.{started, by_one, joined, weaker, leaves_now}
 use Rattle.ports.proofs.Told.{as_told_then, settled_from, present_at, sized_at}
 use Rattle.store_model.specs.Slots.{slot_size, slot_start, set_start, device_size, slot_bytes, slot_numbers, slot_values, number_bytes, values_bytes, IsOpen, IsClosed, HoldsRound}
 use Rattle.store_model.proofs.SlotLemmas.{slot_within, slots_lie}
+use Rattle.store_model.proofs.SlotBytes.{closed_still}
 use Rattle.store_reader.specs.declared.store.SlotHead.{SlotHead}
 use Rattle.store_reader.specs.Reading.{TellsHead}
 use Rattle.checkpoint.specs.Storing.{WhileStoring, KeepsOther}
@@ -253,15 +254,6 @@ other_while_storing own slot number start mid new round changed law first next =
     let before : WhileClosing own slot start while.image = leaves_now number start mid (WhileClosing own slot start) law first while.image while.is_image in
     record { image = before.image; is_image = before.is_image; long = while.long ∙ before.long; other = while.other ∙ before.other })
 
--- a slot with the same bytes has the same gate
-closed_same : (own slot : ℕ) (a b : List ℕ) → slot_bytes own slot b ≡ slot_bytes own slot a → IsClosed own slot a → IsClosed own slot b
-closed_same own slot a b same closed = λ is_open. closed (sym (gate a) ∙ ap (λ bytes. get_or bytes 0 0) (sym same) ∙ gate b ∙ is_open)
-  where
-    gate : (bytes : List ℕ) → get_or (slot_bytes own slot bytes) 0 0 ≡ get_or bytes (slot_start own slot) 0
-    gate bytes =
-        let here : slot_start own slot + 0 ≡ slot_start own slot = omega arith in
-        get_or-take (slot_size own) (drop (slot_start own slot) bytes) 0 0 (omega arith) ∙ get_or-drop (slot_start own slot) bytes 0 0 ∙ ap (λ n. get_or bytes n 0) here
-
 -- a run on a slot that is closed already
 pub closing_on : (own slot number : ℕ) (start mid new : DiskState) → IsDisk mid → InEveryImage mid (IsClosed own slot) → Leaves number start mid (WhileClosing own slot start) → Leaves number mid new (WhileClosing own slot mid) →
     Leaves number start new (WhileClosing own slot start)
@@ -274,7 +266,7 @@ closing_on own slot number start mid new law closed first next =
       is_image = before.is_image;
       long = while.long ∙ before.long;
       other = while.other ∙ before.other;
-      itself = inr (elim while.itself [ inl same ↦ closed_same own slot while.image c same (closed while.image while.is_image) | inr is_closed ↦ is_closed ]);
+      itself = inr (elim while.itself [ inl same ↦ closed_still own slot while.image c same (closed while.image while.is_image) | inr is_closed ↦ is_closed ]);
     })
 
 pub keeps_other : (own slot number : ℕ) (start new : DiskState) → Leaves number start new (WhileClosing own slot start) → Leaves number start new (KeepsOther own slot start)

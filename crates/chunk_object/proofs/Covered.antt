@@ -20,6 +20,11 @@ count-cons p x xs = sum_by-append (λ y. cond (p y) 1 0) (x ∷ []) xs ∙ ap (�
     zero_add : (n : ℕ) → 0 + n ≡ n
     zero_add n = omega arith
 
+-- a count is begun anew, or nothing more is counted
+pub zero_either : (a b : Bool) → b ≡ false → cond {A = ℕ} a 0 (cond b 1 0) ≡ 0
+zero_either true b e = refl
+zero_either false b e = cond-false {A = ℕ} b 1 0 e
+
 pub count_by-append : {X : Type 0} (p : X → Bool) (xs ys : List X) → count_by p (xs ++ ys) ≡ count_by p xs + count_by p ys
 count_by-append p xs ys = sum_by-append (λ y. cond (p y) 1 0) xs ys
 
@@ -81,10 +86,6 @@ module _ (cursor : ℕ) where
     stays_zero : (calls : List Call) → AllByRecursion (IsOpening lens) calls → counted 0 calls ≡ 0
     stays_zero [] all = refl
     stays_zero (Open opened len ∷ calls) all = ap (λ n. counted n calls) (zero_either (eqb opened cursor) (hits (Open opened len)) (none opened len)) ∙ stays_zero calls all.1
-      where
-        zero_either : (a b : Bool) → b ≡ false → cond {A = ℕ} a 0 (cond b 1 0) ≡ 0
-        zero_either true b e = refl
-        zero_either false b e = cond-false {A = ℕ} b 1 0 e
     stays_zero (c ∷ calls) all = absurd all.0
 
     pub opened_zero : (k : ℕ) (calls : List Call) → AllByRecursion (IsOpening lens) calls → HasOpening calls → counted k calls ≡ 0

@@ -9,7 +9,8 @@ use Rattle.graph_model.specs.declared.job.Job.{Job}
 use Rattle.graph_model.specs.Programs.{Rules, plus}
 use Rattle.graph_model.specs.Rounds.{IsWithinGraph, out_degree}
 use Rattle.graph_model.specs.Jobs.{IsWellFormedJob}
-use Rattle.gather_laws.specs.Laws.{MergeLaws, CountLaws, IsCapped}
+use Rattle.gather_laws.specs.Laws.{CountLaws, IsCapped}
+use Rattle.vertex_programs.specs.TotalLaws.{plus_laws}
 use Rattle.chunk_object.specs.declared.call.Call.{Call}
 use Rattle.chunk_object.specs.Epochs.{Epoch, TakesEachOnce}
 use Rattle.phase_model.specs.JobTerms.{terms_of}
@@ -21,16 +22,6 @@ use Rattle.phase_model.proofs.Counted as degrees
 use Rattle.epoch_laws.specs.Phases.{edge_shelf, Opens, counted, merged_over}
 use Rattle.epoch_laws.proofs.Shelves.{workers_merged}
 use Rattle.epoch_laws.proofs.Edges.{edges_stand, edges_all, over_edges}
-
--- capped sums can be merged in any order
-plus_laws : MergeLaws 0 plus IsCapped
-plus_laws = record {
-  unit_is_sum = omega arith;
-  merge_is_sum = λ s t _ _. omega arith;
-  neutral = λ s capped. omega arith;
-  commutes = λ s t _ _. omega arith;
-  associates = λ s t u _ _ _. omega arith;
-}
 
 -- what an edge counts at a vertex
 abbrev counts_at : ℕ → Edge → List ℕ

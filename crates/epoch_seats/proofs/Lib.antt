@@ -5,3 +5,4 @@ pub mod Ending
 pub mod Few
 pub mod Made
 pub mod Keeping
+pub mod Worked

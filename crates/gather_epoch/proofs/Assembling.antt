@@ -3,18 +3,17 @@ use Rattle.std.proofs.Common.{◌≡◌, ◌≢◌, ℕ, ◌-◌, ◌^◌, ◌<�
 use Rattle.std.specs.List.{All, range_with_len, sum_by}
 use Rattle.std.specs.Vec.{with_items}
 use Rattle.std.proofs.lemmas.List.{get_or-map, length-map}
-use Rattle.std.proofs.lemmas.List.FromFn.{get_or-range_with_len}
 use Rattle.graph_model.specs.Programs.{Rules}
 use Rattle.ports.specs.Disk.{DiskState}
 use Rattle.ports.specs.Faults.{Rose}
 use Rattle.ports.proofs.Rising.{count_rose_before}
 use Rattle.chunk_object.specs.History.{most_chunks}
 use Rattle.chunk_object.specs.Epochs.{Terms, list_of}
-use Rattle.chunk_object.specs.Duty.{IsDutiful, BeginsDutiful}
+use Rattle.chunk_object.specs.Duty.{IsDutiful}
 use Rattle.chunk_cursor.specs.declared.view.View.{View}
 use Rattle.chunk_cursor.specs.Hold.{Hold}
 use Rattle.phase_model.specs.JobTerms.{terms_of}
-use Rattle.phase_model.specs.Taken.{claims, admissions}
+use Rattle.phase_model.specs.Taken.{claims}
 use Rattle.worker_duty.specs.Views.{calls_of, MayWork}
 use Rattle.store_reader.specs.declared.store.Outcome.{Outcome}
 use Rattle.store_reader.specs.declared.store.Outcome.TheVariants.{Done, DiskFault}
@@ -26,13 +25,13 @@ use Rattle.gather_phase.specs.declared.desk.GatherDesk.{GatherDesk}
 use Rattle.gather_phase.specs.declared.desk.GatherRoom.{GatherRoom}
 use Rattle.gather_phase.specs.Rooms.{IsRoom}
 use Rattle.gather_phase.specs.Phases.{MayStopBy}
-use Rattle.worker_outcomes.specs.Lowest.{lowest_outcome, IsLowestAt}
-use Rattle.worker_outcomes.proofs.Lowest.{all_done, is_of}
+use Rattle.worker_outcomes.specs.Lowest.{lowest_outcome}
+use Rattle.worker_outcomes.proofs.Lowest.{all_done, is_of, own_outcome, lowest_meets}
 use Rattle.epoch_seats.specs.Between.{HasEnded}
-use Rattle.epoch_seats.specs.Seats.{IsSeatOf, AreNewSeats, AreSeats, epoch_with}
+use Rattle.epoch_seats.specs.Seats.{AreNewSeats, AreSeats, epoch_with}
 use Rattle.epoch_seats.specs.Made.{HasMadeEpoch}
-use Rattle.epoch_seats.proofs.Keeping.{own_still, calls_are}
-use Rattle.epoch_seats.proofs.Made.{IsPart, list_is, is_made}
+use Rattle.epoch_seats.proofs.Worked as seated
+use Rattle.epoch_seats.proofs.Made.{list_is}
 use Rattle.list_moves.proofs.Moving.{given_back}
 use Rattle.list_moves.proofs.Desks.{some_of, at_desk, same_len, listed}
 use Rattle.gather_epoch.specs.declared.crew.Gathered.{Gathered}
@@ -51,13 +50,13 @@ module _ {P D G M : Type 0} (rules : P → Rules) (state : D → DiskState) (fau
   module _ (desks : List (GatherDesk D M)) (seats : List Hold) (meters : List M) (replicas : List Replicas) (emptied : List D) (rooms : List GatherRoom) (dealt : AreDealt desks seats meters replicas emptied rooms)
       (numbers : map number_at desks ≡ range_with_len 0 the_terms.engines) (before : ℕ) (news : AreNewSeats the_terms the_lens before c.serving.table.now seats) where
     all_desks : length desks ≡ the_terms.engines
-    all_desks = sym (same_len seat_at desks seats dealt.seats_are) ∙ news.many
+    all_desks = seated.all_desks seat_at number_at the_terms the_lens before c.serving.table.now desks seats dealt.seats_are numbers news
 
     seat_is : (w : ℕ) (d : GatherDesk D M) → w < length desks → seat_at (get_or desks w d) ≡ get_or seats w (seat_at d)
-    seat_is w d below = at_desk seat_at desks seats dealt.seats_are w d (seat_at d) below
+    seat_is = seated.seat_is seat_at number_at the_terms the_lens before c.serving.table.now desks seats dealt.seats_are numbers news
 
     number_is : (w : ℕ) (d : GatherDesk D M) → w < length desks → number_at (get_or desks w d) ≡ w
-    number_is w d below = at_desk number_at desks _ numbers w d 0 below ∙ (get_or-range_with_len 0 the_terms.engines w 0 (omega (arith, all_desks)) ∙ omega arith)
+    number_is = seated.number_is seat_at number_at the_terms the_lens before c.serving.table.now desks seats dealt.seats_are numbers news
 
     pub ready : All (λ r. split_of r ≡ c.serving.split.now) replicas → All (IsRoom c.serving.job.now) rooms → All (λ d. (state d).size ≡ 0) emptied → All (λ d. (state d).beat ≤ c.beat.now) emptied
         → (w : ℕ) (d : GatherDesk D M) → w < length desks → IsReady rules state c (get_or desks w d)
@@ -81,26 +80,11 @@ module _ {P D G M : Type 0} (rules : P → Rules) (state : D → DiskState) (fau
     -- After it.
     module _ (done : List (GatherDesk D M)) (all : length done ≡ length desks) (worked : (w : ℕ) (d : GatherDesk D M) → w < length desks → HasWorkedAt rules state faults c (get_or desks w d) (get_or done w d))
         (seats' : List Hold) (meters' : List M) (replicas' : List Replicas) (spills' : List D) (rooms' : List GatherRoom) (back : AreDealt done seats' meters' replicas' spills' rooms') where
-      seat_of : (w : ℕ) (d : GatherDesk D M) → w < length desks → IsSeatOf before w (seat_at (get_or done w d)).view
-      seat_of w d below =
-          let new = news.each w (seat_at d) (omega (arith, all_desks)) in
-          let duty = (worked w d below).duty in
-          subst (IsSeatOf before w) (sym duty.grown) (own_still before w _ duty.calls (subst (λ (s : Hold). IsSeatOf before w s.view) (sym (seat_is w d below)) new.is))
-
       pub tables : All (λ (seat : Hold). seat.table ≡ c.serving.table.now) seats'
-      tables = listed seat_at (λ (seat : Hold). seat.table ≡ c.serving.table.now) done seats' back.seats_are (λ w d below.
-          let within : w < length desks = omega (arith, all) in
-          (worked w d within).table ∙ (ap (λ (s : Hold). s.table) (seat_is w d within) ∙ (news.each w (seat_at d) (omega (arith, all_desks))).of_table))
+      tables = seated.tables seat_at number_at the_terms the_lens before c.serving.table.now desks seats dealt.seats_are numbers news claims_at admitted_at (λ (d : GatherDesk D M). outcome_at d ≡ Done) done all (λ w d below. (worked w d below).table) (λ w d below. (worked w d below).duty) seats' back.seats_are
 
       pub are_seats : AreSeats the_terms.engines before seats'
-      are_seats = record {
-        many = same_len seat_at done seats' back.seats_are ∙ (all ∙ all_desks);
-        each = λ w seat below.
-            let here : w < length done = omega (arith, all, all_desks) in
-            let there : w < length desks = omega (arith, all_desks) in
-            let d = some_of done w here in
-            subst (λ (s : Hold). IsSeatOf before w s.view) (at_desk seat_at done seats' back.seats_are w d seat here) (seat_of w d there);
-      }
+      are_seats = seated.are_seats seat_at number_at the_terms the_lens before c.serving.table.now desks seats dealt.seats_are numbers news claims_at admitted_at (λ (d : GatherDesk D M). outcome_at d ≡ Done) done all (λ w d below. (worked w d below).table) (λ w d below. (worked w d below).duty) seats' back.seats_are
 
       pub splits' : All (λ r. split_of r ≡ c.serving.split.now) replicas'
       splits' = listed replicas_at (λ r. split_of r ≡ c.serving.split.now) done replicas' back.replicas_are (λ w d below. (worked w d (omega (arith, all))).split)
@@ -111,29 +95,13 @@ module _ {P D G M : Type 0} (rules : P → Rules) (state : D → DiskState) (fau
       pub rooms_still : All (IsRoom c.serving.job.now) rooms'
       rooms_still = listed room_at (IsRoom c.serving.job.now) done rooms' back.rooms_are (λ w d below. (worked w d (omega (arith, all))).room)
 
-      part : (w : ℕ) (d : GatherDesk D M) → w < length done → IsPart the_terms (lowest_outcome (map outcome_at done) ≡ Done) w (seat_at (get_or done w d)) (claims_at (get_or done w d)) (admitted_at (get_or done w d))
-      part w d below =
-          let within : w < length desks = omega (arith, all) in
-          let duty = (worked w d within).duty in
-          let none = ap (λ (s : Hold). s.view.story) (seat_is w d within) ∙ (news.each w (seat_at d) (omega (arith, all_desks))).story in
-          let list : calls_of (seat_at (get_or done w d)).view ≡ duty.calls = ap calls_of duty.grown ∙ calls_are (seat_at (get_or desks w d)).view duty.calls none in
-          let number = number_is w d within in
-          record {
-            begins = subst (BeginsDutiful the_terms w) (sym list) (subst (λ k. BeginsDutiful the_terms k duty.calls) number duty.begins);
-            dutiful = λ through. subst (IsDutiful the_terms w) (sym list)
-                (subst (λ k. IsDutiful the_terms k duty.calls) number (duty.dutiful (sym (get_or-map outcome_at done w d Done below) ∙ all_done (map outcome_at done) through w Done (omega (arith, length-map done outcome_at)))));
-            claims_are = duty.claims_are ∙ ap claims (sym list);
-            admissions_are = duty.admissions_are ∙ ap admissions (sym list);
-          }
-
       pub made : the_terms.engines ≤ 8 → the_terms.partitions ≤ 64 → ((cursor : ℕ) → the_lens cursor ≤ most_chunks) → (old new : View) → HasEnded the_terms old new (epoch_with the_lens seats')
           → (result : Gathered) → result.outcome ≡ lowest_outcome (map outcome_at done) → result.claims ≡ min (sum_by claims_at done) (2 ^ 64 - 1) → result.admitted ≡ min (sum_by admitted_at done) (2 ^ 64 - 1)
           → HasMadeEpoch the_terms the_lens (result.outcome ≡ Done) old new result.claims result.admitted (epoch_with the_lens seats')
       made few few_partitions small old new ended result outcome took helped =
-          subst (λ (s : List Hold). HasMadeEpoch the_terms the_lens (result.outcome ≡ Done) old new result.claims result.admitted (epoch_with the_lens s)) back.seats_are
-          (subst (λ (o : Outcome). HasMadeEpoch the_terms the_lens (o ≡ Done) old new result.claims result.admitted (epoch_with the_lens (map seat_at done))) (sym outcome)
-          (is_made seat_at the_terms the_lens few few_partitions small (lowest_outcome (map outcome_at done) ≡ Done) claims_at admitted_at done (all ∙ all_desks) part old new
-          (subst (λ (s : List Hold). HasEnded the_terms old new (epoch_with the_lens s)) (sym back.seats_are) ended) result.claims result.admitted took helped))
+          subst (λ (o : Outcome). HasMadeEpoch the_terms the_lens (o ≡ Done) old new result.claims result.admitted (epoch_with the_lens seats')) (sym outcome)
+          (seated.made seat_at number_at the_terms the_lens before c.serving.table.now desks seats dealt.seats_are numbers news claims_at admitted_at (λ (d : GatherDesk D M). outcome_at d ≡ Done) done all (λ w d below. (worked w d below).table) (λ w d below. (worked w d below).duty) seats' back.seats_are (lowest_outcome (map outcome_at done) ≡ Done) (λ through w d below. sym (get_or-map outcome_at done w d Done below) ∙ all_done (map outcome_at done) through w Done (omega (arith, length-map done outcome_at)))
+          few few_partitions small old new ended result.claims result.admitted took helped)
 
       -- the outcome of a worker that is not done is that of the epoch
       module _ (spills : List D) (later : (w : ℕ) (d : D) → w < length spills → IsLater state c.beat.now (get_or spills w d) (get_or emptied w d)) (all_spills : length spills ≡ the_terms.engines) where
@@ -188,9 +156,7 @@ module _ {P D G M : Type 0} (rules : P → Rules) (state : D → DiskState) (fau
                 let list : list_of (epoch_with the_lens seats') w ≡ calls_of (seat_at (get_or done w desk)).view =
                 ap (λ (s : List Hold). list_of (epoch_with the_lens s) w) (sym back.seats_are) ∙ list_is seat_at done w desk within_done in
                 let own_duty : outcome_at (get_or done w desk) ≡ Done → IsDutiful the_terms w (calls_of (seat_at (get_or done w desk)).view) =
-                λ through.
-                let none = ap (λ (s : Hold). s.view.story) (seat_is w desk within) ∙ (news.each w (seat_at desk) (omega (arith, all_desks))).story in
-                subst (IsDutiful the_terms w) (sym (ap calls_of at.duty.grown ∙ calls_are (seat_at (get_or desks w desk)).view at.duty.calls none)) (subst (λ k. IsDutiful the_terms k at.duty.calls) (number_is w desk within) (at.duty.dutiful through)) in
+                seated.own_duty seat_at number_at the_terms the_lens before c.serving.table.now desks seats dealt.seats_are numbers news claims_at admitted_at (λ (d : GatherDesk D M). outcome_at d ≡ Done) done all (λ w d below. (worked w d below).table) (λ w d below. (worked w d below).duty) seats' back.seats_are w desk within in
                 record {
                   rose = λ fault. rose (sym outcome ∙ fault);
                   stopped = λ not. subst (MayStopBy rules state c) (sym outcome) (at.stopped (λ through. not (outcome ∙ through)));
@@ -207,24 +173,14 @@ module _ {P D G M : Type 0} (rules : P → Rules) (state : D → DiskState) (fau
         abbrev all_outcomes : List Outcome
         all_outcomes = map outcome_at done
 
-        own_outcome : (w : ℕ) (below : w < the_terms.engines) → IsLowestAt all_outcomes w → outcome_at (get_or done w (desk w below)) ≡ lowest_outcome all_outcomes
-        own_outcome w below lowest = sym (get_or-map outcome_at done w (desk w below) Done (within_done w below)) ∙ lowest.is Done
-
-        below_all : (w : ℕ) → IsLowestAt all_outcomes w → w < the_terms.engines
-        below_all w lowest = omega (arith, lowest.within, length-map done outcome_at, all, all_desks)
-
         pub rose_of : lowest_outcome all_outcomes ≡ DiskFault → RoseOfOne state faults the_terms.engines meters meters' spills spills'
         rose_of fault =
             let lowest = is_of all_outcomes (λ (through : lowest_outcome all_outcomes ≡ Done). absurd (cc)) in
-            let below = below_all lowest.0 lowest.1 in
-            (lowest.0, below, λ m d. rose lowest.0 below m d (own_outcome lowest.0 below lowest.1 ∙ fault))
+            let below : lowest.0 < the_terms.engines = omega (arith, lowest.1.within, length-map done outcome_at, all, all_desks) in
+            (lowest.0, below, λ m d. rose lowest.0 below m d (own_outcome outcome_at done lowest.0 (desk lowest.0 below) lowest.1 ∙ fault))
 
         pub stopped_by : lowest_outcome all_outcomes ≢ Done → MayStopBy rules state c (lowest_outcome all_outcomes)
-        stopped_by not =
-            let lowest = is_of all_outcomes not in
-            let below = below_all lowest.0 lowest.1 in
-            let own = own_outcome lowest.0 below lowest.1 in
-            subst (MayStopBy rules state c) own ((worked lowest.0 (desk lowest.0 below) (within lowest.0 below)).stopped (λ through. not (sym own ∙ through)))
+        stopped_by = lowest_meets outcome_at done (MayStopBy rules state c) (λ w below. some_of done w below) (λ w below. (worked w (some_of done w below) (omega (arith, all))).stopped)
 
         pub have_gathered : (old new : View) (result : Gathered) → result.outcome ≡ lowest_outcome all_outcomes → HasMadeEpoch the_terms the_lens (result.outcome ≡ Done) old new result.claims result.admitted (epoch_with the_lens seats')
             → HaveGathered rules state faults c old new meters meters' spills spills' replicas' result

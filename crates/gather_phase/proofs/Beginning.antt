@@ -1,9 +1,14 @@
 -- The work begins with nothing taken.
-use Rattle.std.proofs.Common.{◌≡◌, ℕ, ◌≤◌, Bool, true, false, Option, List, [], inl, inr, refl, sym, ◌∙◌, subst, ⊎_elim, arith}
+use Rattle.std.proofs.Common.{◌≡◌, ℕ, ◌≤◌, Bool, true, false, Option, List, [], ◌∷◌, inl, inr, refl, sym, ◌∙◌, subst, ⊎_elim, arith}
+use Rattle.std.specs.List.{All}
+use Rattle.std.proofs.lemmas.List.Elements.{All-nil, All-cons, All-append}
 use Rattle.graph_model.specs.declared.value.Update.{Update}
+use Rattle.chunk_object.specs.declared.call.Call.TheVariants.{Took, Exhausted}
 use Rattle.chunk_cursor.specs.declared.view.View.{View}
+use Rattle.chunk_cursor.specs.View.{with_call}
 use Rattle.worker_duty.specs.Views.{taken_by_seat}
 use Rattle.worker_duty.proofs.Beginnings.{nothing_taken}
+use Rattle.worker_duty.proofs.Cursors.{taken_here-none, taken_here-more}
 use Rattle.replica_merge.specs.declared.replicas.Replicas.{Replicas}
 use Rattle.ports.specs.Disk.{DiskState}
 use Rattle.ports.specs.Faults.{Rose}
@@ -14,6 +19,18 @@ use Rattle.gather_phase.specs.Gathering.{Adding, Rests}
 
 pub rests_on : (a : Adding) (engines : ℕ) (lens : ℕ → ℕ) (Described : (ℕ → ℕ → List Update) → Type 0) (told : Option (List ℕ)) (size beat number : ℕ) (replicas : Replicas) (begun : Option ℕ) (v : View) → v.story ≡ [] → Rests a engines lens Described told size beat number replicas begun [] → Rests a engines lens Described told size beat number replicas begun (taken_by_seat v)
 rests_on a engines lens Described told size beat number replicas begun v none rests = subst (Rests a engines lens Described told size beat number replicas begun) (sym (nothing_taken v none)) rests
+
+-- The chunks that a worker took are found.
+module _ (P : ℕ × ℕ → Type 0) where
+  pub found_none : (v : View) → v.story ≡ [] → All P (taken_by_seat v)
+  found_none v none = subst (All P) (sym (nothing_taken v none)) (All-nil P)
+
+  pub found_still : (cursor : ℕ) (now new : View) → new ≡ with_call now (Exhausted cursor) → All P (taken_by_seat now) → All P (taken_by_seat new)
+  found_still cursor now new call found = subst (All P) (sym (taken_here-none cursor now new call)) found
+
+  pub found_more : (cursor place : ℕ) (now new : View) → new ≡ with_call now (Took cursor place) → All P (taken_by_seat now) → P (cursor, place) → All P (taken_by_seat new)
+  found_more cursor place now new call found is =
+      subst (All P) (sym (taken_here-more cursor place now new call)) (All-append P (taken_by_seat now) ((cursor, place) ∷ []) found (All-cons P (cursor, place) [] is (All-nil P)))
 
 -- a desk that goes on twice
 module _ {D M : Type 0} (state : D → DiskState) (faults : M → ℕ) where

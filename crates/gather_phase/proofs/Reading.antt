@@ -1,5 +1,5 @@
 -- What is read of a chunk is what is taken from it, and is to the vertices of its partition.
-use Rattle.std.proofs.Common.{◌≡◌, ℕ, ◌+◌, ◌^◌, ◌<◌, ◌≤◌, Bool, true, false, IfSome, List, length, take, ap, sym, ◌∙◌, subst, arith, nat_lt}
+use Rattle.std.proofs.Common.{◌≡◌, ℕ, ◌+◌, ◌^◌, ◌<◌, ◌≤◌, Bool, true, false, List, length, take, ap, ◌∙◌, subst, arith, nat_lt}
 use Rattle.std.specs.Prelude.{◌&&◌}
 use Rattle.std.proofs.lemmas.Bool.{and_parts, ltb-true}
 use Rattle.std.proofs.lemmas.List.Elements.{All-weaker}
@@ -11,18 +11,17 @@ use Rattle.partitioner.specs.declared.split.Split.{Split}
 use Rattle.partitioner.specs.Splits.{IsSplit}
 use Rattle.partitioner.proofs.Ranges.{in_partition}
 use Rattle.chunk_object.specs.Epochs.{cursor_of}
-use Rattle.chunk_model.specs.Layout.{Layout, IsLayout, edge_layout, update_layout}
+use Rattle.chunk_model.specs.Layout.{edge_layout, update_layout}
 use Rattle.chunk_model.specs.ChunkBytes.{Belongs}
 use Rattle.chunk_model.proofs.LayoutLaws.{edge_layout_is, update_layout_is}
-use Rattle.chunk_model.proofs.OnDevice.{one_chunk}
 use Rattle.chunk_file.specs.Places.{places_of}
-use Rattle.chunk_file.specs.Chunks.{AreChunkIn, IsChunkIn, NoChunkIn}
+use Rattle.chunk_file.specs.Chunks.{AreChunkIn}
 use Rattle.store_reader.specs.declared.serving.Serving.{Serving}
+use Rattle.store_reader.proofs.Taken.{reads_records, refuses_none}
 use Rattle.store_reader.specs.Serving.{told_at, place_at, ReadsAt, RefusesAt}
 use Rattle.phase_model.specs.Sums.{counts_of}
 use Rattle.gather_phase.specs.Summing.{AreWithin, ComeFrom}
 use Rattle.gather_phase.specs.Phases.{Takes}
-use Rattle.store_reader.specs.Indexed.{HasRecords}
 
 pub updates_within : (split : Split) (p first len : ℕ) (most : ℕ) (us : List Update) → IsSplit split → first ≡ first_vertex split.vertices split.parts p → len ≡ part_len split.vertices split.parts p → AreChunkIn update_layout split most p us → AreWithin first len us
 updates_within split p first len most us is first_is len_is are = All-weaker (Belongs update_layout split.vertices split.span p) (λ (u : Update). (first ≤ u.dst) × (u.dst < first + len)) within us are.belong
@@ -40,37 +39,20 @@ edges_within split format p first len most es is first_is len_is are = All-weake
         (omega (arith, range.0, first_is), omega (arith, range.1, first_is, len_is))
 
 module _ {D M : Type 0} (state : D → DiskState) (serving : Serving D M) (engine p t : ℕ) (small : p < 2 ^ 32) (few : serving.job.now.chunk < 2 ^ 32) (inside : engine < serving.job.now.engines) (below : p < serving.split.now.parts) (there : t < length (places_of serving.index.now engine p)) where
-  -- where all chunks stand on devices that tell, what was read is the chunk
-  pub reads_records : {X : Type 0} (layout : Layout X) → IsLayout layout → (records : ℕ → ℕ → List X) (count : ℕ) (into : List X) → HasRecords state layout serving records → length into ≡ serving.job.now.chunk
-      → ReadsAt layout serving.split.now p (place_at serving.index.now engine p t) (told_at state serving.shelf engine (place_at serving.index.now engine p t).lane) count into → records (cursor_of engine p) t ≡ take count into
-  reads_records {X} layout laws records count into has long reads =
-      let there = has engine p t inside below there in
-      let stands : IsChunkIn layout serving.split.now (length into) p (place_at serving.index.now engine p t).at there.0 (take count into) =
-      subst (λ told. IfSome told (λ bytes. IsChunkIn layout serving.split.now (length into) p (place_at serving.index.now engine p t).at bytes (take count into))) there.1 reads.stands in
-      (one_chunk layout laws p p (place_at serving.index.now engine p t).at there.0 (records (cursor_of engine p) t) (take count into) small small (omega (arith, there.2.are.few)) (omega (arith, stands.are.few, long)) there.2.are.held stands.are.held there.2.stands stands.stands).1
-
-  -- and no damage is found
-  pub refuses_none : {X : Type 0} (layout : Layout X) (records : ℕ → ℕ → List X) (most at : ℕ) → HasRecords state layout serving records → most ≡ serving.job.now.chunk
-      → RefusesAt layout serving.split.now p (place_at serving.index.now engine p t) (told_at state serving.shelf engine (place_at serving.index.now engine p t).lane) most at → ⊥
-  refuses_none layout records most at has long refuses =
-      let there = has engine p t inside below there in
-      let none : NoChunkIn layout serving.split.now most p (place_at serving.index.now engine p t).at there.0 = subst (λ told. IfSome told (NoChunkIn layout serving.split.now most p (place_at serving.index.now engine p t).at)) there.1 refuses.none in
-      none (records (cursor_of engine p) t) (subst (λ n. IsChunkIn layout serving.split.now n p (place_at serving.index.now engine p t).at there.0 (records (cursor_of engine p) t)) (sym long) there.2)
-
   pub takes_updates : (counting : Bool) → counting ≡ false → (items : ℕ → ℕ → List Update) → Takes state counting serving items → (count : ℕ) (into : List Update) → length into ≡ serving.job.now.chunk
       → ReadsAt update_layout serving.split.now p (place_at serving.index.now engine p t) (told_at state serving.shelf engine (place_at serving.index.now engine p t).lane) count into → items (cursor_of engine p) t ≡ take count into
-  takes_updates counting kind items takes count into long reads = reads_records update_layout update_layout_is items count into (subst (λ b. Takes state b serving items) kind takes) long reads
+  takes_updates counting kind items takes count into long reads = reads_records state serving engine p t inside below there update_layout update_layout_is small few items count into (subst (λ b. Takes state b serving items) kind takes) long reads
 
   pub takes_edges : (counting : Bool) → counting ≡ true → (items : ℕ → ℕ → List Update) → Takes state counting serving items → (count : ℕ) (into : List Edge) → length into ≡ serving.job.now.chunk
       → ReadsAt (edge_layout serving.job.now.format) serving.split.now p (place_at serving.index.now engine p t) (told_at state serving.shelf engine (place_at serving.index.now engine p t).lane) count into → items (cursor_of engine p) t ≡ counts_of (take count into)
   takes_edges counting kind items takes count into long reads =
       let edges = subst (λ b. Takes state b serving items) kind takes in
-      edges.2 (cursor_of engine p) t ∙ ap counts_of (reads_records (edge_layout serving.job.now.format) (edge_layout_is serving.job.now.format) edges.0 count into edges.1 long reads)
+      edges.2 (cursor_of engine p) t ∙ ap counts_of (reads_records state serving engine p t inside below there (edge_layout serving.job.now.format) (edge_layout_is serving.job.now.format) small few edges.0 count into edges.1 long reads)
 
   pub refuses_updates : (counting : Bool) → counting ≡ false → (items : ℕ → ℕ → List Update) → Takes state counting serving items → (most at : ℕ) → most ≡ serving.job.now.chunk
       → RefusesAt update_layout serving.split.now p (place_at serving.index.now engine p t) (told_at state serving.shelf engine (place_at serving.index.now engine p t).lane) most at → ⊥
-  refuses_updates counting kind items takes most at long refuses = refuses_none update_layout items most at (subst (λ b. Takes state b serving items) kind takes) long refuses
+  refuses_updates counting kind items takes most at long refuses = refuses_none state serving engine p t inside below there update_layout items most at (subst (λ b. Takes state b serving items) kind takes) long refuses
 
   pub refuses_edges : (counting : Bool) → counting ≡ true → (items : ℕ → ℕ → List Update) → Takes state counting serving items → (most at : ℕ) → most ≡ serving.job.now.chunk
       → RefusesAt (edge_layout serving.job.now.format) serving.split.now p (place_at serving.index.now engine p t) (told_at state serving.shelf engine (place_at serving.index.now engine p t).lane) most at → ⊥
-  refuses_edges counting kind items takes most at long refuses = let edges = subst (λ b. Takes state b serving items) kind takes in refuses_none (edge_layout serving.job.now.format) edges.0 most at edges.1 long refuses
+  refuses_edges counting kind items takes most at long refuses = let edges = subst (λ b. Takes state b serving items) kind takes in refuses_none state serving engine p t inside below there (edge_layout serving.job.now.format) edges.0 most at edges.1 long refuses

@@ -1,5 +1,6 @@
 -- What a gather phase says of the desks of its workers.
 use Rattle.std.specs.Prelude.{◌≡◌, ◌⊎◌, ℕ, ◌≤◌, Bool, true, false, if◌then◌else◌, Some, List}
+use Rattle.std.specs.List.{All}
 use Rattle.graph_model.specs.declared.edge.Edge.{Edge}
 use Rattle.graph_model.specs.declared.value.Update.{Update}
 use Rattle.graph_model.specs.declared.job.Job.{Job}
@@ -13,7 +14,7 @@ use Rattle.store_reader.specs.declared.store.Part.{Part}
 use Rattle.store_reader.specs.declared.store.Part.TheVariants.{Graph, Lane}
 use Rattle.store_reader.specs.declared.serving.Serving.{Serving}
 use Rattle.store_reader.specs.Indexed.{lens_of, HasRecords}
-use Rattle.store_reader.specs.Serving.{IsRefusedChunk}
+use Rattle.store_reader.specs.Serving.{IsRefusedChunk, IsFoundChunk}
 use Rattle.phase_model.specs.Sums.{counts_of}
 use Rattle.gather_phase.specs.declared.desk.GatherContext.{GatherContext}
 use Rattle.gather_phase.specs.declared.desk.GatherDesk.{GatherDesk}
@@ -30,6 +31,11 @@ part_of false = Lane
 abbrev pub IsRefused : {D M : Type 0} → (D → DiskState) → Bool → Serving D M → (engine place : ℕ) → Type 0
 IsRefused state true serving engine place = IsRefusedChunk state (edge_layout serving.job.now.format) serving serving.job.now.chunk engine place
 IsRefused state false serving engine place = IsRefusedChunk state update_layout serving serving.job.now.chunk engine place
+
+-- a chunk that was taken stands at its place, where its device tells its bytes
+abbrev pub IsFound : {D M : Type 0} → (D → DiskState) → Bool → Serving D M → ℕ × ℕ → Type 0
+IsFound state true serving chunk = IsFoundChunk state (edge_layout serving.job.now.format) serving serving.job.now.chunk chunk.0 chunk.1
+IsFound state false serving chunk = IsFoundChunk state update_layout serving serving.job.now.chunk chunk.0 chunk.1
 
 module _ {D M : Type 0} (state : D → DiskState) where
   -- what is taken from each chunk: its updates, or 1 for each of its edges at the source
@@ -58,11 +64,13 @@ module _ {P D G M : Type 0} (rules : P → Rules) (state : D → DiskState) wher
 
   pub record DeskRests (c : GatherContext P D G M) (desk : GatherDesk D M) (chunks : List (ℕ × ℕ)) : Type 0 where
     pub at : Rests (adding_of c) c.serving.job.now.engines (lens_of c.serving.index.now) (Takes state c.counting c.serving) (state desk.spill).bytes (state desk.spill).size (state desk.spill).beat c.beat.now desk.replicas desk.room.begun chunks
+    pub found : All (IsFound state c.counting c.serving) chunks
     pub room : IsRoom c.serving.job.now desk.room
     pub done : desk.outcome ≡ Done
 
   pub record DeskMeets (c : GatherContext P D G M) (desk : GatherDesk D M) (partition : ℕ) (chunks : List (ℕ × ℕ)) : Type 0 where
     pub at : Meets (adding_of c) c.serving.job.now.engines (lens_of c.serving.index.now) (Takes state c.counting c.serving) (state desk.spill).bytes (state desk.spill).size (state desk.spill).beat c.beat.now desk.replicas desk.room.begun chunks partition
+    pub found : All (IsFound state c.counting c.serving) chunks
     pub room : IsRoom c.serving.job.now desk.room
     pub done : desk.outcome ≡ Done
 

@@ -3,10 +3,11 @@
 //!
 //! To the room above it promises that the worker's list meets the duty where the outcome is `Done`, and is otherwise a
 //! front of such a list; that its accumulators, with the device that they are spilled to, are then the sums over exactly
-//! the chunks in that list; that it takes no memory; and that a disk fault comes only where a count of faults rose, and
-//! damage never where the devices tell their bytes and have the chunks that the index names. It keeps the accumulators of
-//! one partition in memory, and spills them as the worker leaves it, where a chunk of it was taken. It touches the desk of
-//! its worker, and of what is lent to all workers the cursors alone.
+//! the chunks in that list, and no chunk in it was passed over; that it takes no memory; that a disk fault comes only
+//! where a count of faults rose; and that damage is that of a chunk of the index, and never comes where the devices tell
+//! their bytes and have the chunks that the index names. It keeps the accumulators of one partition in memory, and spills
+//! them as the worker leaves it, where a chunk of it was taken. It touches the desk of its worker, and of what is lent to
+//! all workers the cursors alone.
 #![tactic(auto)]
 
 mod acts;

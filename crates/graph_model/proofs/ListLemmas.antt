@@ -51,3 +51,9 @@ range_with_len-more n = sym (subst (λ k. range_with_len 0 n ++ k ∷ [] ≡ ran
 -- and the sum over it one term more
 pub sum_by_range-more : (f : ℕ → ℕ) (engines : ℕ) → sum_by f (range_with_len 0 (engines + 1)) ≡ sum_by f (range_with_len 0 engines) + f engines
 sum_by_range-more f engines = ap (sum_by f) (range_with_len-more engines) ∙ sum_by_push f (range_with_len 0 engines) engines
+
+-- a relation of two pairs, entry by entry
+pub pair_related : {X Y : Type 0} (P : X → Y → Type 0) (a b : X) (x y : Y) → P a x → P b y → (w : ℕ) (r : X) (d : Y) → w < 2 → P (get_or (a ∷ b ∷ []) w r) (get_or (x ∷ y ∷ []) w d)
+pair_related P a b x y p q zero r d below = p
+pair_related P a b x y p q (suc zero) r d below = q
+pair_related P a b x y p q (suc (suc w)) r d below = absurd (omega arith)

@@ -91,22 +91,23 @@ round_2_is_new : ¬ (Repeats (sssp 0) 3 edges_of_detour 2)
 unfolding edges_of_detour main_of_vertex_1 detour values edges_of_lines ended_lines last_part meaning number first_malformed digits
 round_2_is_new repeats = let same : ◌≡◌ {A = ℕ} 2 5 = ap main_of_vertex_1 repeats.1 in omega arith
 
-new_below_3 : (round : ℕ) → round < 3 → ¬ (Repeats (sssp 0) 3 edges_of_detour round)
-new_below_3 zero below = λ repeats. omega (arith, repeats.0)
-new_below_3 (suc zero) below = round_1_is_new
-new_below_3 (suc (suc zero)) below = round_2_is_new
-new_below_3 (suc (suc (suc round))) below = omega arith
+-- no round below the third repeats, where neither the first nor the second does
+pub new_below_3 : (edges : List Edge) → ¬ (Repeats (sssp 0) 3 edges 1) → ¬ (Repeats (sssp 0) 3 edges 2) → (round : ℕ) → round < 3 → ¬ (Repeats (sssp 0) 3 edges round)
+new_below_3 edges first second zero below = λ repeats. omega (arith, repeats.0)
+new_below_3 edges first second (suc zero) below = first
+new_below_3 edges first second (suc (suc zero)) below = second
+new_below_3 edges first second (suc (suc (suc round))) below = omega arith
 
 round_3_is_last : IsLastRound (sssp 0) 3 edges_of_detour 3 3
 unfolding edges_of_detour
 round_3_is_last = record {
   fixed = λ k fixed. absurd cc;
   repeats = λ _. ((omega arith, distances_repeat), omega arith);
-  least = λ _. new_below_3;
+  least = λ _. new_below_3 edges_of_detour round_1_is_new round_2_is_new;
 }
 
 unsettled_within_2 : IsUnsettled (sssp 0) 3 edges_of_detour 2
-unsettled_within_2 = record { open_ended = refl; never = λ round within. new_below_3 round (omega arith) }
+unsettled_within_2 = record { open_ended = refl; never = λ round within. new_below_3 edges_of_detour round_1_is_new round_2_is_new round (omega arith) }
 
 -- Degrees: two edges from 0 to 1.
 degrees_of_a_double_edge : text_of_values true (values degrees 2 (edges_of_text 2 false (text_line (codes "0 1") ++ text_line (codes "0 1"))) 1)

@@ -1,9 +1,10 @@
 //! Stores after a stop: what stands in a store that is opened again, and how a store is given up.
 //!
-//! To the room above it promises that of a store's bytes the first of six checks that fails is answered, which is only
-//! one, or its job, the places of its chunks and the greatest round that every engine has; and that a store which is being dropped is never
-//! open in part: at each moment its devices are as they were, or some graph device is not open, and afterwards nothing is
-//! left of it. It touches nothing but the devices, meters and beats that it is handed.
+//! To the room above it promises that of a store's bytes the first of six checks that fails is answered, which is
+//! only one, or its job, the places of its chunks and the greatest round that every engine has; and that a store
+//! which is being dropped is never open in part: at each moment its devices are as they were, or some graph device
+//! is not open, and afterwards nothing is left of it. It touches nothing but the devices, meters and beats that it
+//! is handed.
 #![tactic(auto)]
 
 #[cfg(test)]

@@ -1,9 +1,9 @@
 //! A large graph that a number stands for, and a summary of what was written.
 //!
-//! `RmatText` is a source of exactly the edge text that its scale, its number of edges and its number name; it is made
-//! line by line as it is read, and is never in memory as a whole. `Summary` is a sink that counts and marks exactly what
-//! is written to it. Neither ever fails, takes memory or touches anything outside. Two laws (`laws`) say that no line of such
-//! a text is malformed, and which edges it has.
+//! `RmatText` is a source of exactly the edge text that its scale, its number of edges and its number name; it is
+//! made line by line as it is read, and is never in memory as a whole. `Summary` is a sink that counts and marks
+//! exactly what is written to it. Neither ever fails, takes memory or touches anything outside. Two laws (`laws`)
+//! say that no line of such a text is malformed, and which edges it has.
 #![tactic(auto)]
 
 mod laws;

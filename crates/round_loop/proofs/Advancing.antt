@@ -35,7 +35,8 @@ use Rattle.round_loop.specs.Conditions.{MOST_ROUNDS}
 use Rattle.round_loop.specs.Coming.{GoesOn, ComesWell, HasCome}
 use Rattle.round_loop.proofs.Reaching.{next_is_due, reached_of_due}
 use Rattle.round_loop.proofs.Stopping.{other_slot, made_stands, before_still, one_more, more_since}
-use Rattle.round_loop.proofs.Keeping.{kept_then, kept_by_step, told_still, meters_then}
+use Rattle.round_steps.proofs.Kept.{meters_then}
+use Rattle.round_loop.proofs.Keeping.{kept_then, kept_by_step, told_still}
 use Rattle.round_loop.proofs.Epochs.{through_then, fronts_then, are_then, of_round}
 
 pub made_before_sent : (start : Start) → first_made start ≤ first_sent start
@@ -183,7 +184,7 @@ module _ {D M : Type 0} (state : D → DiskState) (faults : M → ℕ) (laws : (
       comes_on goes below = record {
         store = step.store;
         keeps = kept_then state from.store mid.store new.store come.keeps (kept_by_step state (split_for job) (round + 1) (mid.beat + 1) (outcome ≡ Done) mid.store new.store step.keeps);
-        meters = meters_then state faults from.meters mid.meters new.meters come.meters step.meters;
+        meters = meters_then faults from.meters mid.meters new.meters come.meters step.meters;
         through = through_then (terms_of job) from.seat mid.seat new.seat took helped took' helped' epochs more come.through step.epochs.through;
         fronts = fronts_then (terms_of job) epochs more (come.whole tt) step.epochs.some step.epochs.fronts;
         few = All-append HasFewChunks epochs more come.few step.epochs.bounds;

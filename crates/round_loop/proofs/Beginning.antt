@@ -27,7 +27,8 @@ use Rattle.round_loop.specs.Keeping.{IsTold, Moment}
 use Rattle.round_loop.specs.Coming.{ComesWell, HasCome}
 use Rattle.round_loop.proofs.Reaching.{due_of_reached, reached_of_due}
 use Rattle.round_loop.proofs.Stopping.{made_stands, one_more, more_since, none_yet}
-use Rattle.round_loop.proofs.Keeping.{kept_same, kept_by_step, told_still, meters_same}
+use Rattle.round_steps.proofs.Kept.{meters_same}
+use Rattle.round_loop.proofs.Keeping.{kept_same, kept_by_step, told_still}
 use Rattle.round_loop.proofs.Epochs.{through_none, of_first}
 
 -- what is known of the first round
@@ -51,7 +52,7 @@ module _ {D M : Type 0} (state : D → DiskState) (faults : M → ℕ) (laws : (
   found round changed between = record {
     store = ready;
     keeps = kept_same state from.store;
-    meters = meters_same state faults from.meters;
+    meters = meters_same faults from.meters;
     through = through_none (terms_of job) from.seat between;
     fronts = tt;
     few = All-nil HasFewChunks;

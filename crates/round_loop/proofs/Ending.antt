@@ -41,7 +41,8 @@ use Rattle.round_loop.specs.Coming.{EndsAt, ComesWell, HasCome}
 use Rattle.round_loop.specs.Run.{HasComeTo, HasRun}
 use Rattle.round_loop.proofs.Reaching.{ends_at_last, ends_unsettled}
 use Rattle.round_loop.proofs.Stopping.{none_yet}
-use Rattle.round_loop.proofs.Keeping.{kept_same, meters_same}
+use Rattle.round_steps.proofs.Kept.{meters_same}
+use Rattle.round_loop.proofs.Keeping.{kept_same}
 use Rattle.round_loop.proofs.Epochs.{through_none}
 use Rattle.round_loop.proofs.Advancing.{made_before_sent, sent_later}
 
@@ -219,7 +220,7 @@ module _ {D M : Type 0} (state : D → DiskState) (faults : M → ℕ) (rules : 
   not_begun laws from ready between = record {
     store = ready;
     keeps = kept_same state from.store;
-    meters = meters_same state faults from.meters;
+    meters = meters_same faults from.meters;
     rose = λ is. absurd cc;
     beats = (omega arith, omega arith);
     epochs = [];

@@ -2,21 +2,22 @@
 use Rattle.std.proofs.Common.{◌≡◌, ℕ, List, Vec, length, get_or, inl, inr, refl, ◌∙◌, arith}
 use Rattle.std.specs.Global.{Global}
 use Rattle.ports.specs.Disk.{DiskState}
-use Rattle.ports.proofs.Rising.{count_rose_before, count_rose_after}
+use Rattle.ports.proofs.Rising.{one_rose_before, one_rose_after}
 use Rattle.ports.specs.Devices.{OneRose, MetersGoOn}
 use Rattle.store_reader.specs.declared.store.Store.{Store}
 use Rattle.update_lanes.specs.Lanes.{GoOn}
 use Rattle.partitioner.specs.declared.split.Split.{Split}
 use Rattle.round_steps.specs.Going.{Tell, KeepsStore, SomeRose}
+use Rattle.round_steps.proofs.Kept.{meter_rose_later}
 use Rattle.scatter_epoch.specs.Scattering.{RowsGoOn}
 use Rattle.scatter_epoch.specs.Sent.{RowsTell}
 use Rattle.round_loop.specs.Keeping.{AreLater, AreLaterRows, Keeps, IsTold}
 
 module _ {D : Type 0} (state : D → DiskState) where
-  same_devices : (xs : List D) → AreLater state xs xs
+  pub same_devices : (xs : List D) → AreLater state xs xs
   same_devices xs = record { many = refl; faults = λ e d within. omega arith; told = λ e d bytes within is. (bytes, is) }
 
-  then_devices : (xs ys zs : List D) → AreLater state xs ys → AreLater state ys zs → AreLater state xs zs
+  pub then_devices : (xs ys zs : List D) → AreLater state xs ys → AreLater state ys zs → AreLater state xs zs
   then_devices xs ys zs first next = record {
     many = next.many ∙ first.many;
     faults = λ e d within. omega (arith, first.faults e d within, next.faults e d (omega (arith, first.many)));
@@ -30,17 +31,15 @@ module _ {D : Type 0} (state : D → DiskState) where
   still_told xs ys later tell = λ e d within. let was = tell e d (omega (arith, later.many)) in later.told e d was.0 (omega (arith, later.many)) was.1
 
   rose_before : (xs ys zs : List D) → OneRose state xs ys → AreLater state ys zs → length ys ≡ length xs → OneRose state xs zs
-  rose_before xs ys zs rose later many =
-      (rose.0, rose.1, λ d. count_rose_after (state (get_or xs rose.0 d)).faults (state (get_or ys rose.0 d)).faults (state (get_or zs rose.0 d)).faults (rose.2 d) (later.faults rose.0 d (omega (arith, rose.1, many))))
+  rose_before xs ys zs rose later many = one_rose_after (λ d. (state d).faults) xs ys zs many rose (λ e d below. later.faults e d (omega (arith, below, many)))
 
-  rose_after : (xs ys zs : List D) → AreLater state xs ys → OneRose state ys zs → OneRose state xs zs
-  rose_after xs ys zs later rose =
-      (rose.0, omega (arith, rose.1, later.many), λ d. count_rose_before (state (get_or xs rose.0 d)).faults (state (get_or ys rose.0 d)).faults (state (get_or zs rose.0 d)).faults (later.faults rose.0 d (omega (arith, rose.1, later.many))) (rose.2 d))
+  pub rose_after : (xs ys zs : List D) → AreLater state xs ys → OneRose state ys zs → OneRose state xs zs
+  rose_after xs ys zs later rose = one_rose_before (λ d. (state d).faults) xs ys zs later.many later.faults rose
 
-  same_rows : (xs : List (Vec D Global)) → AreLaterRows state xs xs
+  pub same_rows : (xs : List (Vec D Global)) → AreLaterRows state xs xs
   same_rows xs = record { many = refl; each = λ w row within. same_devices (get_or xs w row).items }
 
-  then_rows : (xs ys zs : List (Vec D Global)) → AreLaterRows state xs ys → AreLaterRows state ys zs → AreLaterRows state xs zs
+  pub then_rows : (xs ys zs : List (Vec D Global)) → AreLaterRows state xs ys → AreLaterRows state ys zs → AreLaterRows state xs zs
   then_rows xs ys zs first next = record {
     many = next.many ∙ first.many;
     each = λ w row within. then_devices (get_or xs w row).items (get_or ys w row).items (get_or zs w row).items (first.each w row within) (next.each w row (omega (arith, first.many)));
@@ -80,19 +79,10 @@ module _ {D M : Type 0} (state : D → DiskState) where
   }
 
   module _ (faults : M → ℕ) where
-    pub meters_same : (meters : List M) → MetersGoOn faults meters meters
-    meters_same meters = record { many = refl; later = λ w m within. omega arith }
-
-    pub meters_then : (xs ys zs : List M) → MetersGoOn faults xs ys → MetersGoOn faults ys zs → MetersGoOn faults xs zs
-    meters_then xs ys zs first next = record {
-      many = next.many ∙ first.many;
-      later = λ w m within. omega (arith, first.later w m within, next.later w m (omega (arith, first.many)));
-    }
-
     -- what rose in a later step rose since the beginning
     pub rose_since : (old mid new : Store D M) (xs ys zs : List M) → Keeps state old mid → MetersGoOn faults xs ys → SomeRose state faults mid new ys zs → SomeRose state faults old new xs zs
     rose_since old mid new xs ys zs keeps meters rose = elim rose [
-      | inl meter ↦ inl (meter.0, omega (arith, meter.1, meters.many), λ m. count_rose_before (faults (get_or xs meter.0 m)) (faults (get_or ys meter.0 m)) (faults (get_or zs meter.0 m)) (meters.later meter.0 m (omega (arith, meter.1, meters.many))) (meter.2 m))
+      | inl meter ↦ inl (meter_rose_later faults xs ys zs meters meter)
       | inr device ↦ elim device [
         | inl values ↦ inr (inl (rose_after state old.values.items mid.values.items new.values.items keeps.values values))
         | inr more ↦ elim more [

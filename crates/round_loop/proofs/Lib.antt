@@ -1,7 +1,6 @@
 mod Reaching
-pub mod SlotBytes
 mod Stopping
-mod Keeping
+pub mod Keeping
 pub mod Epochs
 mod Advancing
 mod Beginning

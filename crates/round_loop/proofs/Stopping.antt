@@ -15,7 +15,7 @@ use Rattle.checkpoint.specs.SlotStates.{SameOther}
 use Rattle.checkpoint.specs.Storing.{WhileStoring}
 use Rattle.round_loop.specs.Starts.{IsReached}
 use Rattle.round_loop.specs.Kept.{changed_by, share, Holds, Gives, HasStood, Stands, SlotLeft, Left, LeftSince}
-use Rattle.round_loop.proofs.SlotBytes.{closed_still, held_still}
+use Rattle.store_model.proofs.SlotBytes.{closed_still, held_still}
 
 -- the slots of two rounds in a row
 pub other_slot : (round : ℕ) → 1 ≤ round → slot_of (round - 1) ≡ 1 - slot_of round

@@ -10,6 +10,7 @@ use Rattle.partitioner.specs.declared.split.Split.{Split}
 use Rattle.ports.specs.Disk.{DiskState, IsDisk}
 use Rattle.ports.proofs.Stops.{started}
 use Rattle.ports.proofs.Told.{as_told_same}
+use Rattle.ports.proofs.Rising.{one_rose_before}
 use Rattle.ports.specs.Devices.{OneRose, MetersGoOn}
 use Rattle.graph_model.specs.Rounds.{values}
 use Rattle.chunk_cursor.specs.declared.view.View.{View}
@@ -29,6 +30,9 @@ use Rattle.round_steps.specs.Standing.{StandsBefore, ValuesStand, HasEdges}
 use Rattle.round_steps.specs.Rounds.{StoresRound, MakesFirst, MakesEpochs}
 
 module _ {M : Type 0} (faults : M → ℕ) where
+  pub meters_same : (meters : List M) → MetersGoOn faults meters meters
+  meters_same meters = record { many = refl; later = λ w m below. omega arith }
+
   pub meters_then : (old mid new : List M) → MetersGoOn faults old mid → MetersGoOn faults mid new → MetersGoOn faults old new
   meters_then old mid new first then = record {
     many = then.many ∙ first.many;
@@ -37,11 +41,7 @@ module _ {M : Type 0} (faults : M → ℕ) where
 
   -- a count that rose later rose
   pub meter_rose_later : (old mid new : List M) → MetersGoOn faults old mid → MeterRose faults mid new → MeterRose faults old new
-  meter_rose_later old mid new first rose = (
-    rose.0,
-    omega (arith, rose.1, first.many),
-    λ m. let one = first.later rose.0 m (omega (arith, rose.1, first.many)) in let two = rose.2 m in omega (arith, one, two),
-  )
+  meter_rose_later old mid new first rose = one_rose_before faults old mid new first.many first.later rose
 
 module _ {D : Type 0} (state : D → DiskState) where
   pub go_on_same : (number : ℕ) (devices : List D) → GoOn state number devices devices

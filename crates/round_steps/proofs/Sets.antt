@@ -16,7 +16,7 @@ use Rattle.ports.proofs.Parts.{bytes_at-within}
 use Rattle.store_model.specs.Kept.{values_of}
 use Rattle.store_model.specs.Slots.{slot_start, slot_values, set_bytes, value_bytes, values_bytes}
 use Rattle.store_reader.specs.Reading.{own_in, master_in, len_in, before_in}
-use Rattle.checkpoint.proofs.ByteLemmas.{length-values_bytes}
+use Rattle.store_model.proofs.ValueBytes.{length-values_bytes}
 use Rattle.apply_round.specs.Made.{share_of}
 
 -- the partitions of a master, with one of them

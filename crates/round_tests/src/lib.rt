@@ -1,6 +1,7 @@
-//! Tests that cross the rooms of rounds: scatter epochs of many workers over one store, runs of all programs beside the
-//! plain engine, runs in which a single call of a device fails, and runs that begin at a round that stands. It has no code
-//! of its own, promises nothing and touches disks in memory alone.
+//! Tests that cross the rooms of rounds: scatter epochs of many workers over one store, workers that meet in each
+//! phase and wait at their gate first, runs of all programs beside the plain engine, runs in which a single call of
+//! a device fails, and runs that begin at a round that stands. It has no code of its own, promises nothing and
+//! touches disks in memory alone.
 #![tactic(auto)]
 
 #[cfg(test)]

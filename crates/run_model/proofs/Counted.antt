@@ -15,11 +15,14 @@ use Rattle.round_loop.specs.declared.fault.RoundFault.TheVariants as fault
 use Rattle.job_run.specs.declared.finish.Finish.{Finish}
 use Rattle.job_run.specs.declared.finish.Finish.TheVariants as finish
 use Rattle.endings.specs.declared.ending.Report.{Report}
-use Rattle.endings.specs.declared.ending.Ending.TheVariants.{Answered}
+use Rattle.endings.specs.declared.ending.Ending.TheVariants.{Answered, RoundLimit}
 use Rattle.run_model.specs.Telling.{count_on, counts_of, report_of, ending_of, CountsChunks}
 
 pub same_report : (a b : Report) → Answered a ≡ Answered b → a ≡ b
 same_report a b same = cc
+
+pub same_limit : (a b : ℕ) → RoundLimit a ≡ RoundLimit b → a ≡ b
+same_limit a b same = cc
 
 module _ (job : Job) (edges : List Edge) (index : List (List Place)) (well : IsWellFormedJob job)
     (counted : (parts : ℕ) → parts_of job ≤ parts → parts ≤ 64 → (e : ℕ) → e < 8 → sum_by (λ p. length (places_of index e p)) (range_with_len 0 parts) ≡ length (chunks_on job e (edge_chunks job edges))) where

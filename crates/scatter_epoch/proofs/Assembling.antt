@@ -4,18 +4,17 @@ use Rattle.std.specs.Prelude.{Vec}
 use Rattle.std.specs.Global.{Global}
 use Rattle.std.specs.List.{All, range_with_len, sum_by}
 use Rattle.std.proofs.lemmas.List.{get_or-map, length-map}
-use Rattle.std.proofs.lemmas.List.FromFn.{get_or-range_with_len}
 use Rattle.graph_model.specs.Programs.{Rules}
 use Rattle.ports.specs.Disk.{DiskState}
 use Rattle.ports.specs.Faults.{Rose}
 use Rattle.ports.specs.Devices.{OneRose, MetersGoOn}
 use Rattle.chunk_object.specs.History.{most_chunks}
 use Rattle.chunk_object.specs.Epochs.{Terms, list_of}
-use Rattle.chunk_object.specs.Duty.{IsDutiful, BeginsDutiful}
+use Rattle.chunk_object.specs.Duty.{IsDutiful}
 use Rattle.chunk_cursor.specs.declared.view.View.{View}
 use Rattle.chunk_cursor.specs.Hold.{Hold}
 use Rattle.phase_model.specs.JobTerms.{terms_of}
-use Rattle.phase_model.specs.Taken.{claims, admissions}
+use Rattle.phase_model.specs.Taken.{claims}
 use Rattle.phase_model.specs.declared.placed.Placed.{Placed}
 use Rattle.worker_duty.specs.Views.{calls_of, MayWork}
 use Rattle.store_reader.specs.declared.store.Outcome.{Outcome}
@@ -29,13 +28,13 @@ use Rattle.scatter_phase.specs.Rooms.{IsRoom, AreLanes}
 use Rattle.scatter_phase.specs.Phases.{MayStopBy}
 use Rattle.scatter_phase.specs.Scattered.{HasScattered}
 use Rattle.chunk_file.specs.declared.index.Place.{Place}
-use Rattle.worker_outcomes.specs.Lowest.{lowest_outcome, IsLowestAt}
-use Rattle.worker_outcomes.proofs.Lowest.{all_done, is_of}
+use Rattle.worker_outcomes.specs.Lowest.{lowest_outcome}
+use Rattle.worker_outcomes.proofs.Lowest.{all_done, is_of, own_outcome, lowest_meets}
 use Rattle.epoch_seats.specs.Between.{HasEnded}
-use Rattle.epoch_seats.specs.Seats.{IsSeatOf, AreNewSeats, AreSeats, epoch_with}
+use Rattle.epoch_seats.specs.Seats.{AreNewSeats, AreSeats, epoch_with}
 use Rattle.epoch_seats.specs.Made.{HasMadeEpoch}
-use Rattle.epoch_seats.proofs.Keeping.{own_still, calls_are}
-use Rattle.epoch_seats.proofs.Made.{IsPart, list_is, is_made}
+use Rattle.epoch_seats.proofs.Worked as seated
+use Rattle.epoch_seats.proofs.Made.{list_is}
 use Rattle.list_moves.proofs.Desks.{some_of, at_desk, same_len, listed}
 use Rattle.scatter_epoch.specs.Desks.{IsReady, HasWorkedAt}
 use Rattle.scatter_epoch.specs.Dealing.{seat_at, meter_at, lanes_at, places_on, room_at, number_at, outcome_at, claims_at, admitted_at, AreDealt}
@@ -54,13 +53,13 @@ module _ {P D G M : Type 0} (rules : P → Rules) (state : D → DiskState) (fau
   module _ (desks : List (ScatterDesk D M)) (seats : List Hold) (meters : List M) (rows : List (Vec D Global)) (rooms : List ScatterRoom) (dealt : AreDealt desks seats meters rows rooms)
       (numbers : map number_at desks ≡ range_with_len 0 the_terms.engines) (before : ℕ) (news : AreNewSeats the_terms the_lens before c.serving.table.now seats) where
     all_desks : length desks ≡ the_terms.engines
-    all_desks = sym (same_len seat_at desks seats dealt.seats_are) ∙ news.many
+    all_desks = seated.all_desks seat_at number_at the_terms the_lens before c.serving.table.now desks seats dealt.seats_are numbers news
 
     seat_is : (w : ℕ) (d : ScatterDesk D M) → w < length desks → seat_at (get_or desks w d) ≡ get_or seats w (seat_at d)
-    seat_is w d below = at_desk seat_at desks seats dealt.seats_are w d (seat_at d) below
+    seat_is = seated.seat_is seat_at number_at the_terms the_lens before c.serving.table.now desks seats dealt.seats_are numbers news
 
     number_is : (w : ℕ) (d : ScatterDesk D M) → w < length desks → number_at (get_or desks w d) ≡ w
-    number_is w d below = at_desk number_at desks _ numbers w d 0 below ∙ (get_or-range_with_len 0 the_terms.engines w 0 (omega (arith, all_desks)) ∙ omega arith)
+    number_is = seated.number_is seat_at number_at the_terms the_lens before c.serving.table.now desks seats dealt.seats_are numbers news
 
     pub ready : All (IsRoom c.serving.job.now) rooms → All (λ d. (places_on d).items ≡ []) desks → AreRows state c.serving.job.now.engines c.beat.now rows
         → (w : ℕ) (d : ScatterDesk D M) → w < length desks → IsReady rules state c (get_or desks w d)
@@ -81,26 +80,11 @@ module _ {P D G M : Type 0} (rules : P → Rules) (state : D → DiskState) (fau
     -- After it.
     module _ (done : List (ScatterDesk D M)) (all : length done ≡ length desks) (worked : (w : ℕ) (d : ScatterDesk D M) → w < length desks → HasWorkedAt rules state faults c (get_or desks w d) (get_or done w d))
         (seats' : List Hold) (meters' : List M) (rows' : List (Vec D Global)) (rooms' : List ScatterRoom) (back : AreDealt done seats' meters' rows' rooms') where
-      seat_of : (w : ℕ) (d : ScatterDesk D M) → w < length desks → IsSeatOf before w (seat_at (get_or done w d)).view
-      seat_of w d below =
-          let new = news.each w (seat_at d) (omega (arith, all_desks)) in
-          let duty = (worked w d below).duty in
-          subst (IsSeatOf before w) (sym duty.grown) (own_still before w _ duty.calls (subst (λ (s : Hold). IsSeatOf before w s.view) (sym (seat_is w d below)) new.is))
-
       pub tables : All (λ (seat : Hold). seat.table ≡ c.serving.table.now) seats'
-      tables = listed seat_at (λ (seat : Hold). seat.table ≡ c.serving.table.now) done seats' back.seats_are (λ w d below.
-          let within : w < length desks = omega (arith, all) in
-          (worked w d within).table ∙ (ap (λ (s : Hold). s.table) (seat_is w d within) ∙ (news.each w (seat_at d) (omega (arith, all_desks))).of_table))
+      tables = seated.tables seat_at number_at the_terms the_lens before c.serving.table.now desks seats dealt.seats_are numbers news claims_at admitted_at (λ (d : ScatterDesk D M). outcome_at d ≡ Done) done all (λ w d below. (worked w d below).table) (λ w d below. (worked w d below).duty) seats' back.seats_are
 
       pub are_seats : AreSeats the_terms.engines before seats'
-      are_seats = record {
-        many = same_len seat_at done seats' back.seats_are ∙ (all ∙ all_desks);
-        each = λ w seat below.
-            let here : w < length done = omega (arith, all, all_desks) in
-            let there : w < length desks = omega (arith, all_desks) in
-            let d = some_of done w here in
-            subst (λ (s : Hold). IsSeatOf before w s.view) (at_desk seat_at done seats' back.seats_are w d seat here) (seat_of w d there);
-      }
+      are_seats = seated.are_seats seat_at number_at the_terms the_lens before c.serving.table.now desks seats dealt.seats_are numbers news claims_at admitted_at (λ (d : ScatterDesk D M). outcome_at d ≡ Done) done all (λ w d below. (worked w d below).table) (λ w d below. (worked w d below).duty) seats' back.seats_are
 
       pub rooms_still : All (IsRoom c.serving.job.now) rooms'
       rooms_still = listed room_at (IsRoom c.serving.job.now) done rooms' back.rooms_are (λ w d below. (worked w d (omega (arith, all))).room)
@@ -109,28 +93,10 @@ module _ {P D G M : Type 0} (rules : P → Rules) (state : D → DiskState) (fau
       pub number_still : (w : ℕ) (d : ScatterDesk D M) → w < length done → number_at (get_or done w d) ≡ w
       number_still w d below = let within : w < length desks = omega (arith, all) in (worked w d within).number ∙ number_is w d within
 
-      part : (w : ℕ) (d : ScatterDesk D M) → w < length done → IsPart the_terms (lowest_outcome (map outcome_at done) ≡ Done) w (seat_at (get_or done w d)) (claims_at (get_or done w d)) (admitted_at (get_or done w d))
-      part w d below =
-          let within : w < length desks = omega (arith, all) in
-          let duty = (worked w d within).duty in
-          let none = ap (λ (s : Hold). s.view.story) (seat_is w d within) ∙ (news.each w (seat_at d) (omega (arith, all_desks))).story in
-          let list : calls_of (seat_at (get_or done w d)).view ≡ duty.calls = ap calls_of duty.grown ∙ calls_are (seat_at (get_or desks w d)).view duty.calls none in
-          let number = number_is w d within in
-          record {
-            begins = subst (BeginsDutiful the_terms w) (sym list) (subst (λ k. BeginsDutiful the_terms k duty.calls) number duty.begins);
-            dutiful = λ through. subst (IsDutiful the_terms w) (sym list)
-                (subst (λ k. IsDutiful the_terms k duty.calls) number (duty.dutiful (sym (get_or-map outcome_at done w d Done below) ∙ all_done (map outcome_at done) through w Done (omega (arith, length-map done outcome_at)))));
-            claims_are = duty.claims_are ∙ ap claims (sym list);
-            admissions_are = duty.admissions_are ∙ ap admissions (sym list);
-          }
-
       pub made : the_terms.engines ≤ 8 → the_terms.partitions ≤ 64 → ((cursor : ℕ) → the_lens cursor ≤ most_chunks) → (old new : View) → HasEnded the_terms old new (epoch_with the_lens seats')
           → (took helped : ℕ) → took ≡ min (sum_by claims_at done) (2 ^ 64 - 1) → helped ≡ min (sum_by admitted_at done) (2 ^ 64 - 1)
           → HasMadeEpoch the_terms the_lens (lowest_outcome (map outcome_at done) ≡ Done) old new took helped (epoch_with the_lens seats')
-      made few few_partitions small old new ended took helped took_is helped_is =
-          subst (λ (s : List Hold). HasMadeEpoch the_terms the_lens (lowest_outcome (map outcome_at done) ≡ Done) old new took helped (epoch_with the_lens s)) back.seats_are
-          (is_made seat_at the_terms the_lens few few_partitions small (lowest_outcome (map outcome_at done) ≡ Done) claims_at admitted_at done (all ∙ all_desks) part old new
-          (subst (λ (s : List Hold). HasEnded the_terms old new (epoch_with the_lens s)) (sym back.seats_are) ended) took helped took_is helped_is)
+      made = seated.made seat_at number_at the_terms the_lens before c.serving.table.now desks seats dealt.seats_are numbers news claims_at admitted_at (λ (d : ScatterDesk D M). outcome_at d ≡ Done) done all (λ w d below. (worked w d below).table) (λ w d below. (worked w d below).duty) seats' back.seats_are (lowest_outcome (map outcome_at done) ≡ Done) (λ through w d below. sym (get_or-map outcome_at done w d Done below) ∙ all_done (map outcome_at done) through w Done (omega (arith, length-map done outcome_at)))
 
       module _ (w : ℕ) (below : w < the_terms.engines) where
         within : w < length desks
@@ -176,9 +142,7 @@ module _ {P D G M : Type 0} (rules : P → Rules) (state : D → DiskState) (fau
               let list : list_of (epoch_with the_lens seats') w ≡ calls_of (seat_at (get_or done w desk)).view =
               ap (λ (s : List Hold). list_of (epoch_with the_lens s) w) (sym back.seats_are) ∙ list_is seat_at done w desk within_done in
               let own_duty : outcome_at (get_or done w desk) ≡ Done → IsDutiful the_terms w (calls_of (seat_at (get_or done w desk)).view) =
-              λ through.
-              let none = ap (λ (s : Hold). s.view.story) (seat_is w desk within) ∙ (news.each w (seat_at desk) (omega (arith, all_desks))).story in
-              subst (IsDutiful the_terms w) (sym (ap calls_of at.duty.grown ∙ calls_are (seat_at (get_or desks w desk)).view at.duty.calls none)) (subst (λ k. IsDutiful the_terms k at.duty.calls) (number_is w desk within) (at.duty.dutiful through)) in
+              seated.own_duty seat_at number_at the_terms the_lens before c.serving.table.now desks seats dealt.seats_are numbers news claims_at admitted_at (λ (d : ScatterDesk D M). outcome_at d ≡ Done) done all (λ w d below. (worked w d below).table) (λ w d below. (worked w d below).duty) seats' back.seats_are w desk within in
               record {
                 rose = λ fault. rose (sym outcome ∙ fault);
                 stopped = λ not. subst (MayStopBy rules state c) (sym outcome) (at.stopped (λ through. not (outcome ∙ through)));
@@ -188,24 +152,14 @@ module _ {P D G M : Type 0} (rules : P → Rules) (state : D → DiskState) (fau
       abbrev all_outcomes : List Outcome
       all_outcomes = map outcome_at done
 
-      own_outcome : (w : ℕ) (below : w < the_terms.engines) → IsLowestAt all_outcomes w → outcome_at (get_or done w (desk w below)) ≡ lowest_outcome all_outcomes
-      own_outcome w below lowest = sym (get_or-map outcome_at done w (desk w below) Done (within_done w below)) ∙ lowest.is Done
-
-      below_all : (w : ℕ) → IsLowestAt all_outcomes w → w < the_terms.engines
-      below_all w lowest = omega (arith, lowest.within, length-map done outcome_at, all, all_desks)
-
       pub rose_of : lowest_outcome all_outcomes ≡ DiskFault → RoseOfOne state faults the_terms.engines meters meters' rows rows'
       rose_of fault =
           let lowest = is_of all_outcomes (λ (through : lowest_outcome all_outcomes ≡ Done). absurd (cc)) in
-          let below = below_all lowest.0 lowest.1 in
-          (lowest.0, below, λ m row. rose lowest.0 below m row (own_outcome lowest.0 below lowest.1 ∙ fault))
+          let below : lowest.0 < the_terms.engines = omega (arith, lowest.1.within, length-map done outcome_at, all, all_desks) in
+          (lowest.0, below, λ m row. rose lowest.0 below m row (own_outcome outcome_at done lowest.0 (desk lowest.0 below) lowest.1 ∙ fault))
 
       pub stopped_by : lowest_outcome all_outcomes ≢ Done → MayStopBy rules state c (lowest_outcome all_outcomes)
-      stopped_by not =
-          let lowest = is_of all_outcomes not in
-          let below = below_all lowest.0 lowest.1 in
-          let own = own_outcome lowest.0 below lowest.1 in
-          subst (MayStopBy rules state c) own ((worked lowest.0 (desk lowest.0 below) (within lowest.0 below)).stopped (λ through. not (sym own ∙ through)))
+      stopped_by = lowest_meets outcome_at done (MayStopBy rules state c) (λ w below. some_of done w below) (λ w below. (worked w (some_of done w below) (omega (arith, all))).stopped)
 
       pub counts_go_on : MetersGoOn faults meters meters'
       counts_go_on = record {

@@ -1,6 +1,5 @@
 pub mod Emptying
 pub mod Sets
 pub mod Sends
-pub mod Reading
 pub mod Counts
 pub mod Steps

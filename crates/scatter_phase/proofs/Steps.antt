@@ -2,6 +2,7 @@
 use Rattle.std.proofs.Common.{◌≡◌, ◌≢◌, ℕ, ◌+◌, ◌*◌, ◌<◌, ◌≤◌, Some, None, List, [], ◌∷◌, ◌++◌, length, inl, inr, ◌⊎◌, ⊎_elim, refl, sym, ◌∙◌, ap, subst, arith, length-append, append-nil}
 use Rattle.std.specs.List.{All}
 use Rattle.std.proofs.lemmas.Grind.{flat_map-append}
+use Rattle.std.proofs.lemmas.List.Elements.{All-nil, All-cons, All-append}
 use Rattle.graph_model.specs.declared.edge.Edge.{Edge}
 use Rattle.graph_model.specs.declared.value.Update.{Update}
 use Rattle.graph_model.specs.declared.job.Job.{Job}
@@ -22,6 +23,7 @@ use Rattle.phase_model.specs.Sends.{sent_along, sent_by, sending_of}
 use Rattle.phase_model.specs.Taken.{taken, records_of}
 use Rattle.phase_model.proofs.Lists.{records_of-append}
 use Rattle.store_reader.specs.Indexed.{IsServing, HasRecords}
+use Rattle.store_reader.specs.Serving.{IsFoundChunk}
 use Rattle.update_lanes.specs.declared.outgoing.Outgoing.{Outgoing}
 use Rattle.update_lanes.specs.Lanes.{GoOn, IsWithin}
 use Rattle.update_lanes.specs.Outgoing.{HasRoom, HasSent, IsSameRoom, SendsOn, StopsOn}
@@ -39,7 +41,7 @@ use Rattle.scatter_phase.specs.declared.desk.ScatterContext.{ScatterContext}
 use Rattle.scatter_phase.specs.declared.desk.ScatterDesk.{ScatterDesk}
 use Rattle.scatter_phase.specs.declared.desk.ScatterRoom.{ScatterRoom}
 use Rattle.scatter_phase.specs.Rooms.{IsRoom}
-use Rattle.scatter_phase.specs.Phases.{GoesOn, IsSet, IsSetBefore, AreMarked, AreLoaded, AreWithin, IsOpen, HasSentOf, DeskHolds, DeskStops}
+use Rattle.scatter_phase.specs.Phases.{GoesOn, IsSet, IsSetBefore, AreMarked, AreLoaded, AreWithin, IsOpen, HasSentOf, DeskHolds, DeskStops, AreFound}
 use Rattle.scatter_phase.specs.Scattered.{HasFaultCause}
 use Rattle.scatter_phase.specs.Sending.{KeepsBuffers, sending_in, HasSentFor}
 use Rattle.scatter_phase.proofs.Counts.{no_more, one_more, within_as}
@@ -78,6 +80,9 @@ goes_on_then state faults number a b d x y = record {
 }
 
 module _ {P D G M : Type 0} (rules : P → Rules) (state : D → DiskState) (c : ScatterContext P D G M) where
+  abbrev IsFound : ℕ × ℕ → Type 0
+  IsFound chunk = IsFoundChunk state (edge_layout c.serving.job.now.format) c.serving c.serving.job.now.chunk chunk.0 chunk.1
+
   -- no more places are noted than chunks were taken
   pub places_of_chunks : (desk : ScatterDesk D M) (chunks : List (ℕ × ℕ)) → 1 ≤ c.serving.job.now.chunk → HasSentOf rules state c desk chunks → length desk.places.items ≤ length chunks
   places_of_chunks desk chunks some has =
@@ -156,12 +161,16 @@ module _ {P D G M : Type 0} (rules : P → Rules) (state : D → DiskState) (c :
   pub holds_first : (desk : ScatterDesk D M) → desk.seat.view.story ≡ [] → IsOpen rules state c desk → HasSent state c.serving.job.now c.epoch desk.worker [] desk.room.outgoing.buffers.items desk.room.outgoing.placer desk.lanes.items desk.places.items
       → DeskHolds rules state c desk (taken_by_seat desk.seat.view)
   holds_first desk none fit sent = subst (DeskHolds rules state c desk) (sym (nothing_taken desk.seat.view none))
-      (record { fit = fit; has = record { updates = []; sent = sent; few = omega arith; are = λ records describes now holds before holds_before. refl } })
+      (record { fit = fit; has = record { updates = []; sent = sent; few = omega arith; are = λ records describes now holds before holds_before. refl }; found = All-nil IsFound })
 
   -- What a claim and the work on its chunk come to.
-  module _ (mid new : ScatterDesk D M) (es : List Edge) (chunks : List (ℕ × ℕ)) (cursor t : ℕ) (has : HasSentOf rules state c mid chunks) (reads : (records : ℕ → ℕ → List Edge) → HasRecords state (edge_layout c.serving.job.now.format) c.serving records → records cursor t ≡ es) where
+  module _ (mid new : ScatterDesk D M) (es : List Edge) (chunks : List (ℕ × ℕ)) (cursor t : ℕ) (has : HasSentOf rules state c mid chunks) (are_found : AreFound rules state c chunks) (is_found : IsFound (cursor, t)) (reads : (records : ℕ → ℕ → List Edge) → HasRecords state (edge_layout c.serving.job.now.format) c.serving records → records cursor t ≡ es) where
     pub sent_at : (result : Step) → HasSentFor rules state c mid new es result → result ≢ step.Stopped → DeskHolds rules state c new (chunks ++ (cursor, t) ∷ [])
-    sent_at step.Took sent ne = record { fit = sent.fit; has = sent.has chunks cursor t has reads }
+    sent_at step.Took sent ne = record {
+      fit = sent.fit;
+      has = sent.has chunks cursor t has reads;
+      found = All-append IsFound chunks ((cursor, t) ∷ []) are_found (All-cons IsFound (cursor, t) [] is_found (All-nil IsFound));
+    }
     sent_at step.Exhausted sent ne = absurd sent
     sent_at step.Stopped sent ne = absurd (ne refl)
 

@@ -19,7 +19,7 @@ use Rattle.store_reader.specs.declared.store.Outcome.TheVariants.{Done, DiskFaul
 use Rattle.store_reader.specs.declared.store.Part.TheVariants.{Graph}
 use Rattle.store_reader.specs.Indexed.{HasRecords}
 use Rattle.store_reader.specs.Reading.{len_in}
-use Rattle.store_reader.specs.Serving.{IsRefusedChunk}
+use Rattle.store_reader.specs.Serving.{IsRefusedChunk, IsFoundChunk}
 use Rattle.update_lanes.specs.Lanes.{AreReady, GoOn, IsWithin}
 use Rattle.update_lanes.specs.Outgoing.{HasSent, NoneFull}
 use Rattle.update_lanes.specs.Sending.{AreChanges}
@@ -84,9 +84,14 @@ module _ {P D G M : Type 0} (rules : P → Rules) (state : D → DiskState) (c :
         → (before : Option (List Value)) → HoldBefore state c.serving.split.now c.values.now c.before before
         → updates ≡ sent_by (sending_of (rules c.program.now) before now) (records_of records chunks)
 
+  -- each of these chunks stands at its place, where its device tells its bytes
+  abbrev pub AreFound : List (ℕ × ℕ) → Type 0
+  AreFound = All (λ (chunk : ℕ × ℕ). IsFoundChunk state (edge_layout c.serving.job.now.format) c.serving c.serving.job.now.chunk chunk.0 chunk.1)
+
   pub record DeskHolds (desk : ScatterDesk D M) (chunks : List (ℕ × ℕ)) : Type 0 where
     pub fit : IsOpen desk
     pub has : HasSentOf desk chunks
+    pub found : AreFound chunks
 
   -- why the work may be stopped: damage is that of a chunk of the index, and is found only where not all chunks stand on
   -- devices that tell their bytes

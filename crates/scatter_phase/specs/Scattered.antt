@@ -12,7 +12,7 @@ use Rattle.chunk_model.specs.Layout.{edge_layout}
 use Rattle.phase_model.specs.Lanes.{update_shelf}
 use Rattle.phase_model.specs.Sends.{sent_by, sending_of}
 use Rattle.phase_model.specs.Taken.{records_taken}
-use Rattle.worker_duty.specs.Views.{calls_of}
+use Rattle.worker_duty.specs.Views.{calls_of, taken_by_seat}
 use Rattle.store_reader.specs.declared.store.Outcome.TheVariants.{DiskFault}
 use Rattle.store_reader.specs.Indexed.{HasRecords}
 use Rattle.update_lanes.specs.Lanes.{AreWritten, places_in}
@@ -20,9 +20,10 @@ use Rattle.update_lanes.specs.Outgoing.{FitsJob}
 use Rattle.scatter_phase.specs.declared.desk.ScatterContext.{ScatterContext}
 use Rattle.scatter_phase.specs.declared.desk.ScatterDesk.{ScatterDesk}
 use Rattle.scatter_phase.specs.Values.{HoldValues, HoldBefore}
+use Rattle.scatter_phase.specs.Phases.{AreFound}
 
 module _ {P D G M : Type 0} (rules : P → Rules) (state : D → DiskState) where
-  -- **The worker's lanes and places are exactly the update chunks of some updates of the job; these are what it took**: where the devices tell the chunks and the values, what the edges of the chunks in its seat's list send, in order, under the values that stand in the slots
+  -- **The worker's lanes and places are exactly the update chunks of some updates of the job; these are what it took**: where the devices tell the chunks and the values, what the edges of the chunks in its seat's list send, in order, under the values that stand in the slots. No chunk in the list was passed over: each stands at its place, where its device tells its bytes
   pub record HasScattered (c : ScatterContext P D G M) (desk : ScatterDesk D M) : Type 0 where
     pub updates : List Update
     pub fit : All (FitsJob c.serving.job.now) updates
@@ -31,6 +32,7 @@ module _ {P D G M : Type 0} (rules : P → Rules) (state : D → DiskState) wher
         → (now : List Value) → HoldValues state c.serving.split.now c.values.now c.slot now
         → (before : Option (List Value)) → HoldBefore state c.serving.split.now c.values.now c.before before
         → updates ≡ sent_by (sending_of (rules c.program.now) before now) (records_taken records (calls_of desk.seat.view))
+    pub found : AreFound rules state c (taken_by_seat desk.seat.view)
 
 module _ {D M : Type 0} (state : D → DiskState) (faults : M → ℕ) where
   -- the count of the meter never falls, and a disk fault is answered only where that count or a lane's rose

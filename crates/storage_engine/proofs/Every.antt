@@ -3,7 +3,7 @@ use Rattle.std.proofs.Common.{◌≡◌, ◌∙◌, ℕ, ◌+◌, ◌<◌, ◌�
 use Rattle.std.proofs.lemmas.List.{get_or-set_same, get_or-set_other, get_or_default, length-set}
 use Rattle.ports.specs.Disk.{DiskState, IsDisk, InEveryImage}
 use Rattle.ports.specs.Faults.{Rose}
-use Rattle.ports.proofs.Rising.{count_rose_before, count_rose_after}
+use Rattle.ports.proofs.Rising.{count_rose_before, one_rose_before, one_rose_after}
 use Rattle.ports.specs.Devices.{Each, OneRose}
 use Rattle.store_model.specs.Heads.{IsShutGraph}
 use Rattle.graph_model.proofs.ListLemmas.{at_set}
@@ -46,12 +46,10 @@ one_rose_here {X} state P number olds mids e mid new within all rose = (
 
 -- it rose in the second of two runs, or in the first
 pub one_rose_later : {X : Type 0} (state : X → DiskState) (P : List ℕ → Type 0) (number : ℕ) (olds mids news : List X) → Each state (Step P number) olds mids → OneRose state mids news → OneRose state olds news
-one_rose_later state P number olds mids news first rose =
-    (rose.0, omega (arith, rose.1, first.many), λ d. count_rose_before _ (state (get_or mids rose.0 d)).faults _ (first.each rose.0 d (omega (arith, rose.1, first.many))).faults (rose.2 d))
+one_rose_later state P number olds mids news first rose = one_rose_before (λ x. (state x).faults) olds mids news first.many (λ e d below. (first.each e d below).faults) rose
 
 pub one_rose_earlier : {X : Type 0} (state : X → DiskState) (P : List ℕ → Type 0) (number : ℕ) (olds mids news : List X) → length mids ≡ length olds → OneRose state olds mids → Each state (Step P number) mids news → OneRose state olds news
-one_rose_earlier state P number olds mids news many rose next =
-    (rose.0, rose.1, λ d. count_rose_after _ (state (get_or mids rose.0 d)).faults _ (rose.2 d) (next.each rose.0 d (omega (arith, rose.1, many))).faults)
+one_rose_earlier state P number olds mids news many rose next = one_rose_after (λ x. (state x).faults) olds mids news many rose (λ e d below. (next.each e d (omega (arith, below, many))).faults)
 
 -- The devices below a number have had their step, and the others no call.
 pub record DoneBelow {X : Type 0} (state : X → DiskState) (R : DiskState → DiskState → Type 0) (Q : ℕ → DiskState → DiskState → Type 0) (e : ℕ) (olds mids : List X) : Type 0 where

@@ -1,6 +1,6 @@
 -- One chunk more: what stands on the devices and in the index.
 use Rattle.std.proofs.Common.{◌≡◌, ◌≢◌, ◌∙◌, ◌⊎◌, ℕ, ◌+◌, ◌*◌, ◌<◌, ◌≤◌, ◌==◌, Bool, true, false, List, [], ◌∷◌, ◌++◌, length, map, get_or, set, Option, Some, None, IfSome, Result, inl, inr, refl, ap, sym, subst, arith}
-use Rattle.std.proofs.lemmas.List.{map-append, length-append, get_or-set_same, get_or-set_other, length-set}
+use Rattle.std.proofs.lemmas.List.{map-append, length-append, length-set}
 use Rattle.std.proofs.lemmas.List.Sums.{sum_by-set}
 use Rattle.graph_model.specs.declared.edge.Edge.{Edge}
 use Rattle.graph_model.specs.declared.job.Job.{Job}
@@ -18,6 +18,7 @@ use Rattle.chunk_model.proofs.Waiting.{same_or_other}
 use Rattle.chunk_file.specs.declared.index.Place.{Place}
 use Rattle.chunk_file.specs.declared.index.TheConstants.{MOST_PLACES}
 use Rattle.chunk_file.specs.Places.{no_places, places_of, total_of, with_place, on_graph}
+use Rattle.chunk_file.proofs.Scanning.{place_here, place_elsewhere}
 use Rattle.seeded_place.specs.Placing.{Placing, HasPlaced, edge_stream, engine_of}
 use Rattle.store_model.specs.Graphs.{graph_with, places_on}
 use Rattle.store_model.proofs.Growing.{next_engine, graph-here, graph-other, graph-none, length-head, length-graph, places-here, places-other_partition, places-other_engine}
@@ -30,28 +31,22 @@ pub total-more : (index : List (List Place)) (k : ℕ) (place : Place) → k < l
 total-more index k place within =
     omega (arith, sum_by-set (λ (places : List Place). length places) index k (get_or index k no_places ++ place ∷ []) no_places within, length-append (get_or index k no_places) (place ∷ []))
 
-with_here : (index : List (List Place)) (e p : ℕ) (place : Place) → 64 * e + p < length index → places_of (with_place index e p place) e p ≡ places_of index e p ++ place ∷ []
-with_here index e p place within = get_or-set_same index (64 * e + p) (places_of index e p ++ place ∷ []) no_places within
-
-with_other : (index : List (List Place)) (e p e' p' : ℕ) (place : Place) → 64 * e' + p' ≢ 64 * e + p → places_of (with_place index e p place) e' p' ≡ places_of index e' p'
-with_other index e p e' p' place other = get_or-set_other index (64 * e + p) (64 * e' + p') (places_of index e p ++ place ∷ []) no_places other
-
 place_more : (job : Job) (made : List (Chunk Edge)) (index : List (List Place)) (e : ℕ) (c : Chunk Edge) (e' p' : ℕ) → HasPlaces job made index → next_engine job made ≡ e → e < 8 → c.partition < 64 → e' < 8 → p' < 64
     → (e' ≡ e) ⊎ (e' ≢ e) → (p' ≡ c.partition) ⊎ (p' ≢ c.partition)
     → places_of (with_place index e c.partition (on_graph (length (graph_with 0 job e made)))) e' p' ≡ map on_graph (places_on job e' p' (made ++ c ∷ []))
 place_more job made index e c e' p' has here few_e few_p below_e below_p (inl same) (inl mine) =
     subst (λ k. places_of (with_place index e c.partition (on_graph (length (graph_with 0 job e made)))) k p' ≡ map on_graph (places_on job k p' (made ++ c ∷ []))) (sym same)
     (subst (λ q. places_of (with_place index e c.partition (on_graph (length (graph_with 0 job e made)))) e q ≡ map on_graph (places_on job e q (made ++ c ∷ []))) (sym mine)
-    (with_here index e c.partition (on_graph (length (graph_with 0 job e made))) (omega (arith, has.lists))
+    (place_here index e c.partition (on_graph (length (graph_with 0 job e made))) (omega (arith, has.lists))
     ∙ ap (λ places. places ++ on_graph (length (graph_with 0 job e made)) ∷ []) (has.places e c.partition few_e few_p)
     ∙ sym (map-append on_graph (places_on job e c.partition made) (length (graph_with 0 job e made) ∷ []))
     ∙ ap (map on_graph) (sym (places-here job e c.partition made c here refl))))
 place_more job made index e c e' p' has here few_e few_p below_e below_p (inl same) (inr other) =
-    with_other index e c.partition e' p' (on_graph (length (graph_with 0 job e made))) (omega arith)
+    place_elsewhere index e c.partition e' p' (on_graph (length (graph_with 0 job e made))) (omega arith)
     ∙ has.places e' p' below_e below_p
     ∙ ap (map on_graph) (sym (places-other_partition job e' p' made c (here ∙ sym same) (λ is. other (sym is))))
 place_more job made index e c e' p' has here few_e few_p below_e below_p (inr other) any =
-    with_other index e c.partition e' p' (on_graph (length (graph_with 0 job e made))) (omega arith)
+    place_elsewhere index e c.partition e' p' (on_graph (length (graph_with 0 job e made))) (omega arith)
     ∙ has.places e' p' below_e below_p
     ∙ ap (map on_graph) (sym (places-other_engine job e' p' made c (λ is. other (sym is ∙ here))))
 

@@ -13,15 +13,7 @@ use Rattle.store_model.specs.declared.field.Field.TheVariants.{Format}
 use Rattle.store_model.specs.Heads.{IsOpenGraph}
 use Rattle.store_model.specs.Kept.{device}
 use Rattle.store_model.specs.Damage.{NotPrepared, EnginesDiffer, GraphDamaged, ValuesDamaged, value_of, heads_fault, values_fault, chunks_before, IsEdgeChunk, NoEdgeChunk, BeginsWith, StopsAt, HasFault, IsSound}
-
-edges : List Edge
-edges = record { src = 0; dst = 1; weight = 5 } ∷ record { src = 0; dst = 2; weight = 1 } ∷ record { src = 2; dst = 1; weight = 1 } ∷ []
-
-chunk : Chunk Edge
-chunk = record { partition = 0; items = edges }
-
-number : ℕ → List ℕ
-number n = 0 ∷ 0 ∷ 0 ∷ 0 ∷ 0 ∷ 0 ∷ 0 ∷ n ∷ []
+use Rattle.store_model.proofs.WorkedExamples.{edges, chunk, number}
 
 -- the job's numbers and the mark
 numbers : List ℕ

@@ -8,6 +8,7 @@ use Rattle.graph_model.specs.declared.job.Program.TheVariants.{Sssp}
 use Rattle.graph_model.specs.Programs.{sssp}
 use Rattle.graph_model.specs.Rounds.{values, value_at, Repeats, IsLastRound}
 use Rattle.graph_model.proofs.RoundLemmas.{last_is_one}
+use Rattle.graph_model.proofs.WorkedExamples.{new_below_3}
 use Rattle.chunk_model.specs.Chunks.{Chunk}
 use Rattle.chunk_model.specs.ChunkBytes.{chunk_bytes, chunk_head, bytes_of_chunks, starts_of}
 use Rattle.chunk_model.specs.Layout.{edge_bytes, edge_layout}
@@ -17,7 +18,7 @@ use Rattle.store_model.specs.Heads.{front, head}
 use Rattle.store_model.specs.Graphs.{edge_chunks, chunks_on, graph_with, graph, places_on}
 use Rattle.store_model.specs.Kept.{own_of, round_values, values_of, changed_in, device, IsReached, HasRound, IsValuesOf, IsWholeStore, IsKeptRound}
 
-edges : List Edge
+unfoldable pub edges : List Edge
 edges = record { src = 0; dst = 1; weight = 5 } ∷ record { src = 0; dst = 2; weight = 1 } ∷ record { src = 2; dst = 1; weight = 1 } ∷ []
 
 job_of : ℕ → Job
@@ -55,7 +56,7 @@ graph_0_of_format_2 =
     ++ (0 ∷ 0 ∷ 0 ∷ 2 ∷ 0 ∷ 0 ∷ 0 ∷ 1 ∷ 0 ∷ 0 ∷ 0 ∷ 0 ∷ 0 ∷ 0 ∷ 0 ∷ 1 ∷ [])
 
 -- 144 bytes: round 2 with one changed value in slot 0, round 3 with none in slot 1
-number : ℕ → List ℕ
+unfoldable pub number : ℕ → List ℕ
 number n = 0 ∷ 0 ∷ 0 ∷ 0 ∷ 0 ∷ 0 ∷ 0 ∷ n ∷ []
 
 gate : List ℕ
@@ -68,7 +69,7 @@ values_0 : List ℕ
 values_0 = (gate ++ number 2 ++ number 1 ++ distances) ++ gate ++ number 3 ++ number 0 ++ distances
 
 -- One chunk, and one engine.
-chunk : Chunk Edge
+unfoldable pub chunk : Chunk Edge
 chunk = record { partition = 0; items = edges }
 
 one_chunk : (format : ℕ) → edge_chunks (job_of format) edges ≡ chunk ∷ []
@@ -123,22 +124,13 @@ unfolding values_0 gate number distances
 size_of_values = refl
 
 -- round 3 is the first that repeats
-main_of_vertex_1 : List Value → ℕ
-main_of_vertex_1 found = (value_at found 1).main
-
 round_1_is_new : ¬ (Repeats (sssp 0) 3 edges 1)
-unfolding edges main_of_vertex_1 values
-round_1_is_new repeats = let same : ◌≡◌ {A = ℕ} 5 (2 ^ 64 - 1) = ap main_of_vertex_1 repeats.1 in omega arith
+unfolding edges values
+round_1_is_new repeats = let same : ◌≡◌ {A = ℕ} 5 (2 ^ 64 - 1) = ap (λ (found : List Value). (value_at found 1).main) repeats.1 in omega arith
 
 round_2_is_new : ¬ (Repeats (sssp 0) 3 edges 2)
-unfolding edges main_of_vertex_1 values
-round_2_is_new repeats = let same : ◌≡◌ {A = ℕ} 2 5 = ap main_of_vertex_1 repeats.1 in omega arith
-
-new_below_3 : (round : ℕ) → round < 3 → ¬ (Repeats (sssp 0) 3 edges round)
-new_below_3 zero below = λ repeats. omega (arith, repeats.0)
-new_below_3 (suc zero) below = round_1_is_new
-new_below_3 (suc (suc zero)) below = round_2_is_new
-new_below_3 (suc (suc (suc round))) below = omega arith
+unfolding edges values
+round_2_is_new repeats = let same : ◌≡◌ {A = ℕ} 2 5 = ap (λ (found : List Value). (value_at found 1).main) repeats.1 in omega arith
 
 round_3_repeats : values (sssp 0) 3 edges 3 ≡ values (sssp 0) 3 edges 2
 unfolding edges values
@@ -148,7 +140,7 @@ round_3_is_last : IsLastRound (sssp 0) 3 edges 100000 3
 round_3_is_last = record {
   fixed = λ k fixed. absurd cc;
   repeats = λ _. ((omega arith, round_3_repeats), omega arith);
-  least = λ _. new_below_3;
+  least = λ _. new_below_3 edges round_1_is_new round_2_is_new;
 }
 
 reached : (format round : ℕ) → round ≤ 3 → IsReached (job_of format) edges round

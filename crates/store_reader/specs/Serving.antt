@@ -3,6 +3,7 @@ use Rattle.std.specs.Prelude.{◌≡◌, ℕ, ◌<◌, ◌≤◌, List, Option, 
 use Rattle.std.specs.Global.{Global}
 use Rattle.std.specs.List.{All}
 use Rattle.ports.specs.Disk.{DiskState}
+use Rattle.chunk_object.specs.Epochs.{cursor_of}
 use Rattle.chunk_cursor.specs.declared.table.Claim.{Claim}
 use Rattle.chunk_cursor.specs.declared.table.Claim.TheVariants as claimed
 use Rattle.chunk_cursor.specs.declared.view.View.{View}
@@ -69,6 +70,18 @@ pub record IsRefusedChunk {D M X : Type 0} (state : D → DiskState) (layout : L
   pub there : t < length (places_of serving.index.now engine partition)
   pub refuses : RefusesAt layout serving.split.now partition (place_at serving.index.now engine partition t)
       (told_at state serving.shelf engine (place_at serving.index.now engine partition t).lane) most at
+
+-- **A chunk of a cursor is found**: it has its place on an engine, in a partition, and where the device tells its bytes a
+-- chunk of that partition of at most so many records stands there.
+pub record IsFoundChunk {D M X : Type 0} (state : D → DiskState) (layout : Layout X) (serving : Serving D M) (most cursor t : ℕ) : Type 0 where
+  pub engine : ℕ
+  pub partition : ℕ
+  pub cursor_is : cursor ≡ cursor_of engine partition
+  pub engine_is : engine < serving.job.now.engines
+  pub partition_is : partition < serving.split.now.parts
+  pub there : t < length (places_of serving.index.now engine partition)
+  pub stands : IfSome (told_at state serving.shelf engine (place_at serving.index.now engine partition t).lane)
+      (λ bytes. (items : List X) × IsChunkIn layout serving.split.now most partition (place_at serving.index.now engine partition t).at bytes items)
 
 -- What each answer says: of the claim, and of the chunk that was taken.
 abbrev pub HasServed : (claims : Claim → Type 0) (reads : (t count : ℕ) → Type 0) (rose : Type 0) (refuses : (t at : ℕ) → Type 0) → Served → Type 0

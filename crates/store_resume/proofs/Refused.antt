@@ -1,7 +1,6 @@
 -- A resume that made no round: the store was not recovered, or there was no memory.
-use Rattle.std.proofs.Common.{◌≡◌, ◌∙◌, inl, inr, ℕ, List, [], map, true, refl, sym, ap, subst, arith}
+use Rattle.std.proofs.Common.{◌≡◌, ◌∙◌, inl, inr, ℕ, List, [], true, refl, sym, ap, subst, arith}
 use Rattle.ports.specs.Disk.{DiskState, IsDisk}
-use Rattle.ports.specs.Stops.{IsStop, AreImages}
 use Rattle.ports.specs.Devices.{MetersGoOn}
 use Rattle.graph_model.specs.declared.edge.Edge.{Edge}
 use Rattle.graph_model.specs.declared.job.Job.{Job}
@@ -19,7 +18,7 @@ use Rattle.restart.specs.Storable.{IsStorable}
 use Rattle.restart.proofs.OneFault.{one_fault}
 use Rattle.epoch_seats.specs.Between.{IsBetweenEpochs}
 use Rattle.round_steps.specs.Going.{AreDevices, AreRows, MeterRose}
-use Rattle.store_rounds.proofs.Places.{idle_stop}
+use Rattle.store_rounds.proofs.Places.{same_stop}
 use Rattle.store_rounds.proofs.Stores.{whole_open}
 use Rattle.endings.specs.declared.ending.Ending.{Ending}
 use Rattle.endings.specs.declared.ending.Ending.TheVariants.{Memory, DiskFault}
@@ -76,15 +75,6 @@ module _ {D M : Type 0} (state : D → DiskState) (lawful : (d : D) → IsDisk (
 
   gone : (job : Job) (ending : Ending) → (IsComplete ending → ⊥) → HasGone job call.before.seat call.after.seat ending []
   gone job ending none = subst (λ seat. HasGone job call.before.seat seat ending []) (sym same_seat) (gone_none job ending none call.before.seat ready.between)
-
-  -- a stop leaves images of devices that nobody has touched
-  idle_graphs : (b : ℕ) (images : List (List ℕ)) → IsStop b (map state call.before.store.graphs.items) (map state call.after.store.graphs.items) images → AreImages (map state call.before.store.graphs.items) images
-  idle_graphs b images stop = idle_stop state lawful b call.before.store.graphs.items images
-      (subst (λ (store : Store D M). IsStop b (map state call.before.store.graphs.items) (map state store.graphs.items) images) same_store stop)
-
-  idle_values : (b : ℕ) (images : List (List ℕ)) → IsStop b (map state call.before.store.values.items) (map state call.after.store.values.items) images → AreImages (map state call.before.store.values.items) images
-  idle_values b images stop = idle_stop state lawful b call.before.store.values.items images
-      (subst (λ (store : Store D M). IsStop b (map state call.before.store.values.items) (map state store.values.items) images) same_store stop)
 
   -- the fault is found where the devices tell their bytes
   abbrev IsThere : damage.Fault → Type 0
@@ -156,7 +146,7 @@ module _ {D M : Type 0} (state : D → DiskState) (lawful : (d : D) → IsDisk (
       counts = none_counted job ending none edges;
       stands = λ settled. stands;
       kept = λ settled round kept b stopped_graphs stopped within stop_graphs stop_values.
-          (round, omega arith, subst (λ images. IsEverywhere job edges images round) (sym (settled.1 stopped (idle_values b stopped stop_values))) kept.everywhere);
+          (round, omega arith, subst (λ images. IsEverywhere job edges images round) (sym (settled.1 stopped (same_stop state lawful b call.before.store.values.items call.after.store.values.items stopped (ap (λ (store : Store D M). store.values.items) same_store) stop_values))) kept.everywhere);
     }
 
     well_of : (why : RecoverFault) → restart.HasCauseOfJob graphs why → GoesOnWell state faults call job edges graphs values (refusal why) []
@@ -186,5 +176,7 @@ module _ {D M : Type 0} (state : D → DiskState) (lawful : (d : D) → IsDisk (
     refused = refused_of why;
     of_job = λ job edges storable graphs values tell_graphs tell_values others whole. well_of job edges graphs values whole why (of_job job edges graphs values storable (inr whole) tell_graphs tell_values);
     stops = λ job edges storable told_graphs told_values tell_graphs tell_values others stores b graphs values within stop_graphs stop_values.
-        stores graphs values (idle_graphs b graphs stop_graphs) (idle_values b values stop_values);
+        stores graphs values
+        (same_stop state lawful b call.before.store.graphs.items call.after.store.graphs.items graphs (ap (λ (store : Store D M). store.graphs.items) same_store) stop_graphs)
+        (same_stop state lawful b call.before.store.values.items call.after.store.values.items values (ap (λ (store : Store D M). store.values.items) same_store) stop_values);
   }

@@ -3,7 +3,7 @@ use Rattle.std.proofs.Common.{◌≡◌, ◌∙◌, ◌⊎◌, inl, inr, ℕ, �
 use Rattle.std.specs.Prelude.{Vec}
 use Rattle.std.specs.Global.{Global}
 use Rattle.ports.specs.Disk.{DiskState, IsDisk, InEveryImage}
-use Rattle.ports.specs.Stops.{IsStop, AreImages}
+use Rattle.ports.specs.Stops.{AreImages}
 use Rattle.ports.specs.Devices.{MetersGoOn}
 use Rattle.graph_model.specs.declared.edge.Edge.{Edge}
 use Rattle.graph_model.specs.declared.job.Job.{Job}
@@ -47,7 +47,7 @@ use Rattle.store_edges.proofs.Standing.{has_edges as edges_there}
 use Rattle.store_edges.proofs.Found.{found_stand}
 use Rattle.store_edges.proofs.Counted.{engine_counted}
 use Rattle.store_rounds.specs.Going.{start_of, LeaveRounds}
-use Rattle.store_rounds.proofs.Places.{are_images, told_images, settled_as, stop_of_each, idle_stop}
+use Rattle.store_rounds.proofs.Places.{are_images, told_images, settled_as, stop_of_each, same_stop}
 use Rattle.store_rounds.proofs.Starting.{good_start, kept_after}
 use Rattle.store_rounds.proofs.Stores.{store_at_stop, not_lost}
 use Rattle.store_rounds.proofs.Answering.{whole_answer, front_answer}
@@ -65,13 +65,10 @@ use Rattle.run_model.specs.Runs.{MOST_BEATS}
 use Rattle.store_resume.specs.Resumes.{OfBytes, AreSettled, HasResumeCause, HasDamage, HasPrintedNothing, HasRefused, HasCauseOfJob, StandsAfterResume, GoesOnWell, IsAtLimit, IsResume}
 use Rattle.run_model.proofs.Going.{devices_on, store_same, store_run, some_rose_later}
 use Rattle.run_model.proofs.Untouched.{prints_none}
-use Rattle.run_model.proofs.Counted.{same_report, counts_of_finish}
+use Rattle.run_model.proofs.Counted.{same_report, same_limit, counts_of_finish}
 use Rattle.store_resume.specs.Going.{GoesOn}
 use Rattle.store_resume.proofs.Refused.{refused_resume}
 use Rattle.store_resume.proofs.Starts.{opened_found, job_found, places_found, start_found, handed_in, one_start, behind_kept, stood_from}
-
-same_limit : (a b : ℕ) → RoundLimit a ≡ RoundLimit b → a ≡ b
-same_limit a b same = cc
 
 module _ {D M : Type 0} (state : D → DiskState) (lawful : (d : D) → IsDisk (state d)) (faults : M → ℕ) (call : Call D M) (meters : List M) (engines : ℕ) (found : Recovered) (formed : IsWellFormedJob (job_in found)) (as_many : (job_in found).engines ≡ engines)
     (ready : IsReady state engines call.before) (on : MetersGoOn faults call.before.meters meters)
@@ -108,11 +105,6 @@ module _ {D M : Type 0} (state : D → DiskState) (lawful : (d : D) → IsDisk (
       meters = meters_then faults call.before.meters meters call.after.meters on runs.meters;
       beats = (omega (arith, runs.beats.0), omega (arith, runs.beats.1));
     }
-
-    -- a stop leaves images of the graph devices
-    idle_graphs : (b : ℕ) (images : List (List ℕ)) → IsStop b (map state call.before.store.graphs.items) (map state call.after.store.graphs.items) images → AreImages (map state call.before.store.graphs.items) images
-    idle_graphs b images stop = idle_stop state lawful b call.before.store.graphs.items images
-        (subst (λ (graphs : Vec D Global). IsStop b (map state call.before.store.graphs.items) (map state graphs.items) images) runs.keeps.graphs stop)
 
   -- devices that tell are not damaged
   not_damaged : (result : Result Done RoundFault) (runs : RunsTo result) (part : Part) (engine place : ℕ) → result ≡ Err (fault.Damaged part engine place) → OfBytes state faults call (λ graphs values. ⊥)
@@ -364,7 +356,7 @@ module _ {D M : Type 0} (state : D → DiskState) (lawful : (d : D) → IsDisk (
         store_at_stop state job edges call.before.beat (first_made start) call.after.beat b call.before.store.values.items call.after.store.values.items stopped
         (runs_well edges graphs values storable tell_graphs tell_values others whole resumes (rounds_of ended) runs).any_stop within
         (stop_of_each state b call.before.store.values.items call.after.store.values.items stopped stop_values) lawful values stopped_graphs tell_values
-        (λ images are. stores stopped_graphs images (idle_graphs (rounds_of ended) runs b stopped_graphs stop_graphs) are)
+        (λ images are. stores stopped_graphs images (same_stop state lawful b call.before.store.graphs.items call.after.store.graphs.items stopped_graphs (ap (λ (graphs : Vec D Global). graphs.items) runs.keeps.graphs) stop_graphs) are)
 
   -- **The job came to a finish.**
   module _ (unread : call.text_after ≡ call.text) (no_reads : call.read_faults_after ≡ call.read_faults)

@@ -12,7 +12,7 @@ use Rattle.list_moves.proofs.Desks.{some_of}
 use Rattle.store_rounds.specs.Images.{IsStopOfEach}
 use Rattle.store_rounds.specs.Going.{LeaveRounds, LeaveRoundsSince}
 use Rattle.store_rounds.proofs.SameRounds.{reached_in_store, held_in_store, known_round}
-use Rattle.round_loop.proofs.SlotBytes.{closed_still, held_still}
+use Rattle.store_model.proofs.SlotBytes.{closed_still, held_still}
 
 module _ (job : Job) (edges : List Edge) (e : ℕ) where
   -- of slots 0 and 1

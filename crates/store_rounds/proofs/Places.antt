@@ -1,5 +1,5 @@
 -- Devices in their places: images of each, and a stop of several as one of each.
-use Rattle.std.proofs.Common.{◌≡◌, ℕ, zero, suc, ◌<◌, List, [], ◌∷◌, length, map, get_or, refl, sym, ◌∙◌, ap, arith}
+use Rattle.std.proofs.Common.{◌≡◌, ℕ, zero, suc, ◌<◌, List, [], ◌∷◌, length, map, get_or, refl, sym, ◌∙◌, ap, subst, arith}
 use Rattle.ports.specs.Disk.{DiskState, IsDisk}
 use Rattle.ports.specs.Stops.{IsStop, AreImages}
 use Rattle.ports.proofs.Told.{present_at}
@@ -90,3 +90,7 @@ module _ {D : Type 0} (state : D → DiskState) where
   idle_stop lawful b [] (c ∷ cs) stop = absurd stop
   idle_stop lawful b (x ∷ devices) [] stop = absurd stop
   idle_stop lawful b (x ∷ devices) (c ∷ cs) stop = ((lawful x).only_now b c stop.0, idle_stop lawful b devices cs stop.1)
+
+  -- and so of devices that are the same ones
+  pub same_stop : ((d : D) → IsDisk (state d)) → (b : ℕ) (olds news : List D) (images : List (List ℕ)) → news ≡ olds → IsStop b (map state olds) (map state news) images → AreImages (map state olds) images
+  same_stop lawful b olds news images same stop = idle_stop lawful b olds images (subst (λ (devices : List D). IsStop b (map state olds) (map state devices) images) same stop)

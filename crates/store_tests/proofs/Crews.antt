@@ -1,10 +1,5 @@
--- Two workers, and three.
+-- Three workers.
 use Rattle.std.proofs.Common.{ℕ, zero, suc, ◌<◌, [], ◌∷◌, get_or, arith}
-
-pub two : {X Y : Type 0} (P : X → Y → Type 0) (a b : X) (x y : Y) → P a x → P b y → (w : ℕ) (r : X) (d : Y) → w < 2 → P (get_or (a ∷ b ∷ []) w r) (get_or (x ∷ y ∷ []) w d)
-two P a b x y p q zero r d below = p
-two P a b x y p q (suc zero) r d below = q
-two P a b x y p q (suc (suc w)) r d below = absurd (omega arith)
 
 pub three : {X Y : Type 0} (P : X → Y → Type 0) (a b c : X) (x y z : Y) → P a x → P b y → P c z → (w : ℕ) (r : X) (d : Y) → w < 3 → P (get_or (a ∷ b ∷ c ∷ []) w r) (get_or (x ∷ y ∷ z ∷ []) w d)
 three P a b c x y z p q s zero r d below = p

@@ -1,5 +1,6 @@
-//! Tests that cross the rooms of stores: a store that is made while single calls fail, a worker's share of a gather phase,
-//! rounds that are stored, and a store that is recovered. It has no code of its own, promises nothing and touches disks in memory alone.
+//! Tests that cross the rooms of stores: a store that is made while single calls fail, a worker's share of a gather
+//! phase, two workers in threads, rounds that are stored, and a store that is recovered. It has no code of its own,
+//! promises nothing and touches disks in memory alone.
 #![tactic(auto)]
 
 #[cfg(test)]

@@ -64,12 +64,9 @@ use Rattle.run_model.specs.Runs.{IsRun, MOST_BEATS}
 use Rattle.run_model.proofs.Going.{devices_on, store_then, store_run, some_rose_later}
 use Rattle.text_run.proofs.Causes.{of_some, unprepared, exact}
 use Rattle.run_model.proofs.Untouched.{prints_nothing}
-use Rattle.run_model.proofs.Counted.{same_report, counts_of_finish}
+use Rattle.run_model.proofs.Counted.{same_report, same_limit, counts_of_finish}
 use Rattle.text_run.proofs.Prepared.{beats, store_made, graphs_made}
 use Rattle.text_run.proofs.Made.{good_start, given_are, leave_made, made_store, storable, has_edges, told_made}
-
-same_limit : (a b : ℕ) → RoundLimit a ≡ RoundLimit b → a ≡ b
-same_limit a b same = cc
 
 module _ {D M : Type 0} (state : D → DiskState) (lawful : (d : D) → IsDisk (state d)) (faults : M → ℕ) (job : Job) (well : IsWellFormedJob job) (second : job.format ≡ 2) (call : Call D M) (now : ℕ) (read : Type 0) (new : Store D M) (meters : List M) (index : List (List Place))
     (ready : IsReady state job.engines call.before) (on : MetersGoOn faults call.before.meters meters) (shut : SomeShut state call.before.store.graphs.items)

@@ -12,7 +12,8 @@ use Rattle.storage_engine.specs.Preparing.{Prepares}
 use Rattle.round_steps.specs.Going.{AreDevices, AreRows}
 use Rattle.round_loop.specs.Keeping.{AreLater, AreLaterRows, moment}
 use Rattle.run_model.specs.Calls.{IsReady, StoreGoesOn}
-use Rattle.run_model.proofs.Going.{later_same, later_made, rows_same, devices_on, rows_on, devices_of}
+use Rattle.round_loop.proofs.Keeping.{same_devices, same_rows}
+use Rattle.run_model.proofs.Going.{later_made, devices_on, rows_on, devices_of}
 
 -- a call may be made with other meters, as many
 pub ready_with : {D M : Type 0} (state : D → DiskState) (engines : ℕ) (store : Store D M) (meters meters' : List M) (seat : View) (beat : ℕ) → length meters' ≡ length meters → IsReady state engines (moment store meters seat beat) → IsReady state engines (moment store meters' seat beat)
@@ -35,8 +36,8 @@ module _ {D M : Type 0} (state : D → DiskState) (job : Job) (text left : Optio
   store_made = record {
     graphs = later_made state job.engines old.graphs.items new.graphs.items ready.graphs.all prepares.many.0 prepares.later_graphs;
     values = later_made state job.engines old.values.items new.values.items ready.values.all prepares.many.1 prepares.later_values;
-    lanes = subst (λ (rows : Vec (Vec D Global) Global). AreLaterRows state old.lanes.items rows.items) (sym lanes) (rows_same state old.lanes.items);
-    spills = subst (λ (devices : Vec D Global). AreLater state old.spills.items devices.items) (sym spills) (later_same state old.spills.items);
+    lanes = subst (λ (rows : Vec (Vec D Global) Global). AreLaterRows state old.lanes.items rows.items) (sym lanes) (same_rows state old.lanes.items);
+    spills = subst (λ (devices : Vec D Global). AreLater state old.spills.items devices.items) (sym spills) (same_devices state old.spills.items);
   }
 
   pub lanes_made : AreRows state job.engines now new.lanes.items

@@ -1,9 +1,9 @@
 -- Calls of lanes, one after another.
-use Rattle.std.proofs.Common.{◌≡◌, ℕ, ◌<◌, List, length, get_or, refl, ◌∙◌, arith}
+use Rattle.std.proofs.Common.{◌≡◌, ℕ, List, length, refl, ◌∙◌, arith}
 use Rattle.std.specs.Prelude.{Result, Ok, Err, IfErr, OnOk, OnErr}
 use Rattle.std.specs.Result.{IsErr, IsErrAnd}
 use Rattle.ports.specs.Disk.{DiskState}
-use Rattle.ports.proofs.Rising.{count_rose_before, count_rose_after}
+use Rattle.ports.proofs.Rising.{one_rose_before, one_rose_after}
 use Rattle.ports.specs.Devices.{OneRose}
 use Rattle.update_lanes.specs.Lanes.{GoOn}
 
@@ -20,13 +20,11 @@ stays state number lanes = record { many = refl; beats = λ e d below early. ear
 
 -- a count that rose is higher also after further calls
 pub rose_before : {X : Type 0} (state : X → DiskState) (number : ℕ) (old mid new : List X) → length mid ≡ length old → OneRose state old mid → GoOn state number mid new → OneRose state old new
-rose_before state number old mid new many rose next = (rose.0, rose.1, λ d. count_rose_after (state (get_or old rose.0 d)).faults (state (get_or mid rose.0 d)).faults (state (get_or new rose.0 d)).faults (rose.2 d) (next.later rose.0 d (omega (arith, many, rose.1))))
+rose_before state number old mid new many rose next = one_rose_after (λ x. (state x).faults) old mid new many rose (λ e d below. next.later e d (omega (arith, many, below)))
 
 -- and one that rose later has risen since an earlier call
 pub rose_since : {X : Type 0} (state : X → DiskState) (number : ℕ) (old mid new : List X) → GoOn state number old mid → OneRose state mid new → OneRose state old new
-rose_since state number old mid new first rose =
-    let below : rose.0 < length old = omega (arith, first.many, rose.1) in
-    (rose.0, below, λ d. count_rose_before (state (get_or old rose.0 d)).faults (state (get_or mid rose.0 d)).faults (state (get_or new rose.0 d)).faults (first.later rose.0 d below) (rose.2 d))
+rose_since state number old mid new first rose = one_rose_before (λ x. (state x).faults) old mid new first.many first.later rose
 
 -- what an answer that came through a `?` says
 pub err_cause : {T E : Type 0} (r : Result T E) (P Q : E → Type 0) → ((fault : E) → P fault → Q fault) → IsErrAnd r P → IfErr r Q

@@ -6,7 +6,8 @@ use Rattle.graph_model.specs.declared.value.Value.{Value}
 use Rattle.graph_model.specs.Programs.{plus, degrees, pagerank}
 use Rattle.gather_laws.specs.Laws.{IsCapped, MergeLaws, GatherLaws}
 
-plus_laws : MergeLaws 0 plus IsCapped
+-- capped sums can be merged in any order
+pub plus_laws : MergeLaws 0 plus IsCapped
 plus_laws = record {
   unit_is_sum = omega arith;
   merge_is_sum = λ s t _ _. omega arith;

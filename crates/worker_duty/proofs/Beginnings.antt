@@ -11,7 +11,7 @@ use Rattle.chunk_object.specs.Object.{put_at}
 use Rattle.chunk_object.specs.History.{final, entries_of, count_step, count_from, opens, exhausts, greets, admits, refusals_of, admissions_of, len_after, opened_from, opened_len, total, EpochSoFar, no_epoch, engine_count, engines_after, next_epoch, epoch_after, epoch_step, epoch_of}
 use Rattle.chunk_object.specs.Epochs.{cursor_of, Terms, entry_of, first_entries, opens_of, greets_of, splits_of}
 use Rattle.chunk_object.proofs.Histories.{put_at_here, put_at_else, final-append, count-append, total_same_below}
-use Rattle.chunk_object.proofs.Covered.{all_both}
+use Rattle.chunk_object.proofs.Covered.{all_both, zero_either}
 use Rattle.chunk_cursor.specs.declared.view.View.{View}
 use Rattle.chunk_cursor.specs.View.{knows}
 use Rattle.phase_model.specs.Taken.{taken}
@@ -26,10 +26,6 @@ module _ (starts hits : Entry → Bool) where
   no_hits : (l : List Entry) → AllByRecursion (λ e. hits e ≡ false) l → count_from starts hits 0 l ≡ 0
   no_hits [] none = refl
   no_hits (e ∷ l) none = ap (λ n. count_from starts hits n l) (zero_either (starts e) (hits e) none.0) ∙ no_hits l none.1
-    where
-      zero_either : (a b : Bool) → b ≡ false → cond {A = ℕ} a 0 (cond b 1 0) ≡ 0
-      zero_either true b e = refl
-      zero_either false b e = cond-false {A = ℕ} b 1 0 e
 
   since_start : (k : ℕ) (l : List Entry) → AllByRecursion (λ e. hits e ≡ false) l → HasStart l → count_from starts hits k l ≡ 0
   since_start k [] none has = absurd has

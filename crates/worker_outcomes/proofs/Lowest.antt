@@ -1,5 +1,6 @@
 -- The outcome of several workers, by cases.
-use Rattle.std.proofs.Common.{◌≡◌, ◌≢◌, ℕ, zero, suc, ◌+◌, ◌<◌, List, [], ◌∷◌, ◌++◌, length, get_or, refl, arith}
+use Rattle.std.proofs.Common.{◌≡◌, ◌≢◌, ℕ, zero, suc, ◌+◌, ◌<◌, List, [], ◌∷◌, ◌++◌, length, map, get_or, refl, sym, ◌∙◌, subst, arith}
+use Rattle.std.proofs.lemmas.List.{get_or-map, length-map}
 use Rattle.store_reader.specs.declared.store.Outcome.{Outcome}
 use Rattle.store_reader.specs.declared.store.Outcome.TheVariants.{Done, DiskFault, Damaged, Memory}
 use Rattle.worker_outcomes.specs.Lowest.{lowest_outcome, IsLowestAt}
@@ -34,6 +35,25 @@ is_of (Done ∷ outcomes) not =
 is_of (DiskFault ∷ outcomes) not = (0, first_is DiskFault outcomes refl)
 is_of (Damaged part engine place ∷ outcomes) not = (0, first_is (Damaged part engine place) outcomes refl)
 is_of (Memory ∷ outcomes) not = (0, first_is Memory outcomes refl)
+
+-- workers at their desks
+module _ {X : Type 0} (outcome_of : X → Outcome) (desks : List X) where
+  abbrev all_outcomes : List Outcome
+  all_outcomes = map outcome_of desks
+
+  -- the outcome of the worker whose outcome counts
+  pub own_outcome : (w : ℕ) (d : X) → IsLowestAt all_outcomes w → outcome_of (get_or desks w d) ≡ lowest_outcome all_outcomes
+  own_outcome w d lowest = sym (get_or-map outcome_of desks w d Done (omega (arith, lowest.within, length-map desks outcome_of))) ∙ lowest.is Done
+
+  -- what is so of each outcome that is not done is so of the one that counts
+  pub lowest_meets : (P : Outcome → Type 0) (desk : (w : ℕ) → w < length desks → X)
+      → ((w : ℕ) (below : w < length desks) → outcome_of (get_or desks w (desk w below)) ≢ Done → P (outcome_of (get_or desks w (desk w below))))
+      → lowest_outcome all_outcomes ≢ Done → P (lowest_outcome all_outcomes)
+  lowest_meets P desk each not =
+      let lowest = is_of all_outcomes not in
+      let below : lowest.0 < length desks = omega (arith, lowest.1.within, length-map desks outcome_of) in
+      let own = own_outcome lowest.0 (desk lowest.0 below) lowest.1 in
+      subst P own (each lowest.0 below (λ through. not (sym own ∙ through)))
 
 -- what came of the first two counts for them
 pub lowest_first : (a b : Outcome) (outcomes : List Outcome) → lowest_outcome (lowest_outcome (a ∷ b ∷ []) ∷ outcomes) ≡ lowest_outcome (a ∷ b ∷ outcomes)

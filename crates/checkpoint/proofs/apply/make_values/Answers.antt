@@ -2,7 +2,8 @@
 use Rattle.std.proofs.Common.{◌≡◌, ℕ, List, arith}
 use Rattle.store_model.specs.Slots.{values_bytes, set_bytes}
 use Rattle.store_reader.specs.Reading.{own_in, master_in, len_in, before_in}
-use Rattle.checkpoint.proofs.ValueSteps.{next_made, told_is}
+use Rattle.store_model.proofs.ValueBytes.{told_is}
+use Rattle.checkpoint.proofs.ValueSteps.{next_made}
 use Rattle.checkpoint.proofs.apply.make_values.Goals as goal
 
 pub returns-clause-made : goal.returns-clause-made

@@ -17,6 +17,7 @@ returns-in_default g c = record {
   at_rest = λ e. record {
     at = left_idle _ _ _ _ _ _ _ _ _ _ _ c.args.partition c.in_default.is c.requires.may.at.at;
     room = c.requires.may.at.room;
+    found = c.requires.may.at.found;
     done = c.requires.may.at.done;
   };
   stopped = λ e. cc;
@@ -51,6 +52,7 @@ returns-in-Ok g c =
             (subst (λ k. AsTold (λ before now. accumulators_of c.spill_sums.new.replicas now k ≡ sums_of c.args.desk.now.replicas) (g.D.Disk.state c.args.desk.now.spill).bytes (g.D.Disk.state c.spill_sums.new.spill).bytes) begun.0 c.in-Ok.ensures.spilled)
             (subst (λ k. AsTold (KeepsOthers c.args.desk.now.replicas c.spill_sums.new.replicas k) (g.D.Disk.state c.args.desk.now.spill).bytes (g.D.Disk.state c.spill_sums.new.spill).bytes) begun.0 c.in-Ok.ensures.others);
         room = record { updates = c.requires.may.at.room.updates; edges = c.requires.may.at.room.edges; bytes = c.in-Ok.ensures.room ∙ c.requires.may.at.room.bytes };
+        found = c.requires.may.at.found;
         done = c.requires.may.at.done;
       };
       stopped = λ e. cc;

@@ -4,9 +4,11 @@ use Rattle.chunk_object.specs.Epochs.{cursor_of}
 use Rattle.phase_model.specs.Sums.{counts_of}
 use Rattle.replica_merge.specs.Accumulators.{sums_of, len_of}
 use Rattle.chunk_model.specs.Layout.{edge_layout}
-use Rattle.gather_phase.specs.Phases.{Takes, IsRefused, part_of, adding_of}
+use Rattle.gather_phase.specs.Phases.{Takes, IsRefused, IsFound, part_of, adding_of}
 use Rattle.store_reader.specs.Indexed.{lens_of}
 use Rattle.store_reader.specs.Serving.{told_at, place_at, RefusesAt, IsRefusedChunk}
+use Rattle.store_reader.proofs.Taken.{found_chunk}
+use Rattle.gather_phase.proofs.Beginning.{found_still, found_more}
 use Rattle.gather_phase.proofs.Reading.{edges_within, takes_edges, refuses_edges}
 use Rattle.gather_phase.proofs.Serving.{met_none, come_begun, come_split, come_stays, met_more, taken_of, long_sums}
 use Rattle.gather_phase.proofs.chunk.serve_edges.Goals as goal
@@ -26,6 +28,7 @@ returns-in-Exhausted g c = record {
   at = λ ne. record {
     at = met_none _ _ _ _ _ _ _ _ _ _ _ (cursor_of c.args.engine c.args.partition) _ _ c.requires.may.at.at c.in-Exhausted.ensures.served.call;
     room = record { updates = c.requires.may.at.room.updates; edges = c.in-Exhausted.ensures.rooms.1 ∙ c.requires.may.at.room.edges; bytes = c.in-Exhausted.ensures.rooms.0 ∙ c.requires.may.at.room.bytes };
+    found = found_still (IsFound g.D.Disk.state c.args.context.now.counting c.args.context.now.serving) (cursor_of c.args.engine c.args.partition) c.args.desk.now.seat.view _ c.in-Exhausted.ensures.served.call c.requires.may.at.found;
     done = c.requires.may.at.done;
   };
   stopped = λ e. cc;
@@ -50,6 +53,9 @@ returns-in-Chunk g c =
             (ap (λ (b : Bool). cond b plus (g.P.VertexProgram.rules c.args.context.now.program.now).fold) (sym c.requires.kind)) c.range-first.ensures.first c.requires.may.at.at c.come_to.ensures.come c.come_to.ensures.begun c.add_edges.ensures.same c.add_edges.ensures.begun c.add_edges.ensures.summed (omega arith) is_of
             (λ items takes. takes_edges g.D.Disk.state c.args.context.now.serving c.args.engine c.args.partition served.0 tiny few c.requires.may.engine_is below (omega (arith, is_of.place)) c.args.context.now.counting c.requires.kind items takes c.in-Chunk.count c.read_records-served.new.into.items long served.2) served.1.call;
         room = record { updates = c.requires.may.at.room.updates; edges = long; bytes = c.in-Chunk.ensures.rooms.0 ∙ c.requires.may.at.room.bytes };
+        found = found_more (IsFound g.D.Disk.state c.args.context.now.counting c.args.context.now.serving) (cursor_of c.args.engine c.args.partition) served.0 c.args.desk.now.seat.view _ served.1.call c.requires.may.at.found
+            (subst (λ (b : Bool). IsFound g.D.Disk.state b c.args.context.now.serving (cursor_of c.args.engine c.args.partition, served.0)) (sym c.requires.kind)
+            (found_chunk g.D.Disk.state c.args.context.now.serving c.args.engine c.args.partition served.0 c.requires.may.engine_is below (omega (arith, is_of.place)) (edge_layout c.args.context.now.serving.job.now.format) c.in-Chunk.count c.read_records-served.new.into.items long served.2));
         done = c.requires.may.at.done;
       };
       stopped = λ e. cc;

@@ -3,9 +3,11 @@ use Rattle.graph_model.specs.Programs.{plus}
 use Rattle.chunk_object.specs.Epochs.{cursor_of}
 use Rattle.replica_merge.specs.Accumulators.{sums_of, len_of}
 use Rattle.chunk_model.specs.Layout.{update_layout}
-use Rattle.gather_phase.specs.Phases.{Takes, IsRefused, part_of, adding_of}
+use Rattle.gather_phase.specs.Phases.{Takes, IsRefused, IsFound, part_of, adding_of}
 use Rattle.store_reader.specs.Indexed.{lens_of}
 use Rattle.store_reader.specs.Serving.{told_at, place_at, RefusesAt, IsRefusedChunk}
+use Rattle.store_reader.proofs.Taken.{found_chunk}
+use Rattle.gather_phase.proofs.Beginning.{found_still, found_more}
 use Rattle.gather_phase.proofs.Reading.{updates_within, takes_updates, refuses_updates}
 use Rattle.gather_phase.proofs.Serving.{met_none, come_begun, come_split, come_stays, met_more, taken_of, long_sums}
 use Rattle.gather_phase.proofs.chunk.serve_updates.Goals as goal
@@ -25,6 +27,7 @@ returns-in-Exhausted g c = record {
   at = λ ne. record {
     at = met_none _ _ _ _ _ _ _ _ _ _ _ (cursor_of c.args.engine c.args.partition) _ _ c.requires.may.at.at c.in-Exhausted.ensures.served.call;
     room = record { updates = c.in-Exhausted.ensures.rooms.1 ∙ c.requires.may.at.room.updates; edges = c.requires.may.at.room.edges; bytes = c.in-Exhausted.ensures.rooms.0 ∙ c.requires.may.at.room.bytes };
+    found = found_still (IsFound g.D.Disk.state c.args.context.now.counting c.args.context.now.serving) (cursor_of c.args.engine c.args.partition) c.args.desk.now.seat.view _ c.in-Exhausted.ensures.served.call c.requires.may.at.found;
     done = c.requires.may.at.done;
   };
   stopped = λ e. cc;
@@ -49,6 +52,9 @@ returns-in-Chunk g c =
             (ap (λ (b : Bool). cond b plus (g.P.VertexProgram.rules c.args.context.now.program.now).fold) (sym c.requires.kind)) c.range-first.ensures.first c.requires.may.at.at c.come_to.ensures.come c.come_to.ensures.begun c.add_updates.ensures.same c.add_updates.ensures.begun c.add_updates.ensures.summed (omega arith) is_of
             (λ items takes. takes_updates g.D.Disk.state c.args.context.now.serving c.args.engine c.args.partition served.0 tiny few c.requires.may.engine_is below (omega (arith, is_of.place)) c.args.context.now.counting c.requires.kind items takes c.in-Chunk.count c.read_records-served.new.into.items long served.2) served.1.call;
         room = record { updates = long; edges = c.requires.may.at.room.edges; bytes = c.in-Chunk.ensures.rooms.0 ∙ c.requires.may.at.room.bytes };
+        found = found_more (IsFound g.D.Disk.state c.args.context.now.counting c.args.context.now.serving) (cursor_of c.args.engine c.args.partition) served.0 c.args.desk.now.seat.view _ served.1.call c.requires.may.at.found
+            (subst (λ (b : Bool). IsFound g.D.Disk.state b c.args.context.now.serving (cursor_of c.args.engine c.args.partition, served.0)) (sym c.requires.kind)
+            (found_chunk g.D.Disk.state c.args.context.now.serving c.args.engine c.args.partition served.0 c.requires.may.engine_is below (omega (arith, is_of.place)) update_layout c.in-Chunk.count c.read_records-served.new.into.items long served.2));
         done = c.requires.may.at.done;
       };
       stopped = λ e. cc;

@@ -34,6 +34,7 @@ work-worked-requires-clause-acts g c = record {
   enters = λ desk k chunks below rests none. record {
     at = enters _ _ _ _ _ _ _ _ _ _ _ k (omega (arith, below, c.requires.serving.of_job.parts)) rests.at none;
     room = rests.room;
+    found = rests.found;
     done = rests.done;
   };
 }
@@ -47,6 +48,7 @@ returns-clause-gathered g c = λ done.
     record {
       within = rests.within;
       width = rests.width;
+      found = (c.work-worked.ensures.rests through).found;
       summed = λ kind records has device tells p below.
           rests.sums p below records (subst (λ b. Takes g.D.Disk.state b c.args.context.now.serving records) (sym kind) has) device tells
           ∙ (sums_all c.args.context.now.serving.split.now c.requires.serving.split c.args.context.now.serving.job.now.engines (lens_of c.args.context.now.serving.index.now) records (updates_homed g.D.Disk.state c.args.context.now.serving c.requires.serving.split records has) (adding_of g.P.VertexProgram.rules g.D.Disk.state c.args.context.now) refl p chunks rests.known

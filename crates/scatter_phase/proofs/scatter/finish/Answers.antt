@@ -27,4 +27,5 @@ returns-in-Ok-clause-scattered g c = λ done.
       fit = has.sent.fit;
       written = c.in-Ok.ensures.written c.args.context.now.serving.job.now c.args.context.now.epoch c.args.desk.now.worker has.updates c.requires.holds.fit.room.of_job has.sent;
       are = has.are;
+      found = c.requires.holds.found;
     }

@@ -24,7 +24,7 @@ work_through-worked-requires-clause-may g c κs within = subst (λ seat. MayWork
 pub finish-requires-clause-holds : goal.finish-requires-clause-holds
 finish-requires-clause-holds g c κs within =
     let holds = c.work_through-worked.ensures.holds c.if-worked.true in
-    record { fit = record { room = holds.fit.room; loaded = holds.fit.loaded; none_full = holds.fit.none_full; ready = holds.fit.ready; within = holds.fit.within; done = holds.fit.done }; has = same_sent g.P.VertexProgram.rules g.D.Disk.state c.args.context.now c.work_through-worked.new.desk _ _ refl refl refl refl holds.has }
+    record { fit = record { room = holds.fit.room; loaded = holds.fit.loaded; none_full = holds.fit.none_full; ready = holds.fit.ready; within = holds.fit.within; done = holds.fit.done }; has = same_sent g.P.VertexProgram.rules g.D.Disk.state c.args.context.now c.work_through-worked.new.desk _ _ refl refl refl refl holds.has; found = holds.found }
 
 pub finish-requires-clause-claims : goal.finish-requires-clause-claims
 finish-requires-clause-claims g c κs within = c.work_through-worked.ensures.worked.claims_are ∙ sym (ap length (chunks_of c.begin.new.desk.seat.view c.work_through-worked.new.desk.seat.view c.work_through-worked.ensures.worked.calls (ap (λ s. s.view.story) c.begin.ensures.seat.0 ∙ c.requires.story) c.work_through-worked.ensures.worked.grown))

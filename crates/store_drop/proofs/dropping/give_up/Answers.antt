@@ -3,7 +3,8 @@ use Rattle.std.proofs.Common.{◌<◌, length, slice_set, refl, arith}
 use Rattle.ports.specs.Faults.{Rose}
 use Rattle.round_loop.specs.Keeping.{moment}
 use Rattle.run_model.specs.Calls.{Call, IsReady}
-use Rattle.run_model.proofs.Going.{meters_after, meter_rose}
+use Rattle.job_run.proofs.Meters.{meter_rose}
+use Rattle.run_model.proofs.Going.{meters_after}
 use Rattle.store_drop.proofs.GivenUp.{dropped, not_dropped}
 use Rattle.store_drop.proofs.dropping.give_up.Goals as goal
 

@@ -9,7 +9,8 @@ use Rattle.round_loop.specs.Keeping.{moment}
 use Rattle.endings.specs.declared.ending.Ending.{Ending}
 use Rattle.run_model.specs.Calls.{Call}
 use Rattle.store_resume.specs.Resumes.{IsResume}
-use Rattle.run_model.proofs.Going.{meters_after, meter_rose}
+use Rattle.job_run.proofs.Meters.{meter_rose}
+use Rattle.run_model.proofs.Going.{meters_after}
 use Rattle.store_resume.proofs.Refused.{cause_among, refused_resume}
 use Rattle.store_resume.proofs.Resumed.{resumed_as}
 use Rattle.store_resume.proofs.resume.resume_store.Goals as goal

@@ -1,4 +1,5 @@
 use Rattle.std.proofs.Common.{◌∙◌, refl, ap, sym, subst, rules, arith}
+use Rattle.graph_model.proofs.ListLemmas.{pair_related}
 use Rattle.chunk_cursor.specs.Hold.{Hold}
 use Rattle.phase_model.specs.JobTerms.{terms_of}
 use Rattle.store_reader.specs.Indexed.{lens_of}
@@ -7,14 +8,13 @@ use Rattle.mem_devices.specs.declared.disk.MemDisk.{MemDisk}
 use Rattle.mem_devices.specs.MemDisk.{disk_state}
 use Rattle.replica_merge.specs.declared.replicas.Replicas.{Replicas}
 use Rattle.replica_merge.specs.Accumulators.{LiesWithin}
-use Rattle.store_tests.proofs.Crews.{two}
 use Rattle.store_tests.proofs.fork_tests.share_of_two.Goals as goal
 
 pub returns : goal.returns
 returns g c = record {
   splits = search (rules, c.take_back-one.ensures.split, c.take_back-two.ensures.split);
   each = refl;
-  within = two (λ (r : Replicas) (d : MemDisk). LiesWithin r (disk_state d).size) _ _ _ _ c.take_back-one.ensures.within c.take_back-two.ensures.within;
+  within = pair_related (λ (r : Replicas) (d : MemDisk). LiesWithin r (disk_state d).size) _ _ _ _ c.take_back-one.ensures.within c.take_back-two.ensures.within;
 }
 
 pub gather_both-one-requires-clause-ready : goal.gather_both-one-requires-clause-ready

@@ -1,6 +1,7 @@
 -- All graph devices are open, one of them is not, or a read failed.
 use Rattle.std.proofs.Common.{◌<◌, length, slice_set, arith}
-use Rattle.run_model.proofs.Going.{meters_after, meter_rose}
+use Rattle.job_run.proofs.Meters.{meter_rose}
+use Rattle.run_model.proofs.Going.{meters_after}
 use Rattle.text_run.proofs.Held.{held, unread}
 use Rattle.text_run.proofs.run.run_text.Goals as goal
 
