@@ -1,5 +1,5 @@
 -- What was printed of the values that stand in a slot, and why it was not all.
-use Rattle.std.specs.Prelude.{◌≡◌, ℕ, ◌≤◌, List, [], Option, Bool, length, take, Result, IfErr}
+use Rattle.std.specs.Prelude.{◌≡◌, ℕ, ◌≤◌, List, [], Option, Bool, length, take, Result, OnOk, IfErr}
 use Rattle.graph_model.specs.declared.value.Value.{Value}
 use Rattle.graph_model.specs.Answer.{text_of_values}
 use Rattle.ports.specs.Disk.{DiskState}
@@ -39,8 +39,9 @@ abbrev pub IsCaused : (disk sink : Type 0) → PrintFault → Type 0
 IsCaused disk sink DiskFault = disk
 IsCaused disk sink WriteFault = sink
 
--- No count falls, and each fault is answered only where its own rose: that of the meter, or that of the sink.
+-- No count falls, each fault is answered only where its own rose, that of the meter or that of the sink, and Ok only where both stand as they were.
 pub record HasPrintCause {T : Type 0} (reads reads' writes writes' : ℕ) (result : Result T PrintFault) : Type 0 where
   pub reads_later : reads ≤ reads'
   pub writes_later : writes ≤ writes'
   pub failed : IfErr result (IsCaused (Rose reads reads') (Rose writes writes'))
+  pub calm : OnOk result ((reads' ≡ reads) × (writes' ≡ writes))

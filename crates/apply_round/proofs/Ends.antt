@@ -12,7 +12,8 @@ use Rattle.store_reader.specs.declared.store.Outcome.TheVariants.{Done, DiskFaul
 use Rattle.checkpoint.specs.Room.{IsRoomOf}
 use Rattle.checkpoint.specs.declared.apply.ApplyDesk.{ApplyDesk}
 use Rattle.worker_outcomes.specs.Lowest.{lowest_outcome}
-use Rattle.list_moves.proofs.Desks.{some_of}
+use Rattle.worker_outcomes.proofs.Lowest.{all_done}
+use Rattle.list_moves.proofs.Desks.{some_of, same_by}
 use Rattle.apply_round.specs.Crew.{AreDealt, OneRose, EndsByCauses, capped}
 use Rattle.apply_round.specs.Applying.{RoundTerms, MayApply, Applies, Stores, HasApplied, AppliesToEach, StoresOnEach}
 
@@ -110,6 +111,14 @@ module _ {D M : Type 0} (state : D → DiskState) (faults : M → ℕ) where
       ends = ends olds news same each;
       disks = never_fall (λ (d : ApplyDesk D M). (state d.disk).faults) olds news same (λ w desk below. (each w desk below).cause.disk);
       meters = never_fall (λ (d : ApplyDesk D M). faults d.meter) olds news same (λ w desk below. (each w desk below).cause.meter);
+      calm = λ done.
+          let at_each : (w : ℕ) (desk : ApplyDesk D M) → w < length olds → (slice_index_or news w desk).outcome ≡ Done =
+          λ w desk below.
+          let here : w < length news = omega (arith, same, below) in
+          sym (get_or-map (λ (d : ApplyDesk D M). d.outcome) news w desk Done here) ∙ all_done (outcomes news) done w Done (omega (arith, here, length-map news (λ (d : ApplyDesk D M). d.outcome))) in (
+            same_by (λ (d : ApplyDesk D M). (state d.disk).faults) olds news same (λ w desk below. ((each w desk below).cause.calm (at_each w desk below)).0),
+            same_by (λ (d : ApplyDesk D M). faults d.meter) olds news same (λ w desk below. ((each w desk below).cause.calm (at_each w desk below)).1),
+          );
     }
 
     pub causes_at : (olds news : List (ApplyDesk D M)) → length news ≡ length olds → EachApplied olds news → {values values' : List D} {meters meters' : List M} {outcome : Outcome} →

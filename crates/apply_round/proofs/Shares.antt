@@ -1,5 +1,5 @@
 -- The values of a round, engine by engine, are one list of all vertices.
-use Rattle.std.proofs.Common.{◌≡◌, ℕ, zero, suc, ◌+◌, ◌-◌, ◌^◌, ◌<◌, ◌≤◌, nat_lt, ◌==◌, Bool, true, false, cond, if◌then◌else◌, List, [], ◌∷◌, ◌++◌, length, map, filter, sum_by, flat_map, Option, refl, sym, ◌∙◌, ap, subst, arith, slice_index_or, lit<, add-one, add-zero, zero-add}
+use Rattle.std.proofs.Common.{◌≡◌, ℕ, zero, suc, ◌+◌, ◌^◌, ◌<◌, ◌≤◌, nat_lt, ◌==◌, Bool, true, false, cond, if◌then◌else◌, List, [], ◌∷◌, ◌++◌, length, map, filter, sum_by, flat_map, Option, refl, sym, ◌∙◌, ap, subst, arith, slice_index_or, lit<, add-one, add-zero, zero-add}
 use Rattle.std.specs.List.{All, range_with_len, count_by}
 use Rattle.std.proofs.lemmas.List.{map-append, take_at, drop_at, get_or-map, get_or_past, length-map}
 use Rattle.std.proofs.lemmas.Bool.{ltb-true, ltb-false}

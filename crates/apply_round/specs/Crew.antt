@@ -33,8 +33,9 @@ pub record OneRose (before now : List ℕ) : Type 0 where
   pub within : place < length before
   pub rose : Rose (slice_index before place) (slice_index now place)
 
--- All is done, or a count of a disk or of a meter rose. Counts never fall.
+-- All is done and no count rose, or that of a disk or of a meter did. Counts never fall.
 pub record EndsByCauses (outcome : Outcome) (disks_before disks_now meters_before meters_now : List ℕ) : Type 0 where
   pub ends : (outcome ≡ Done) ⊎ ((outcome ≡ DiskFault) × (OneRose disks_before disks_now ⊎ OneRose meters_before meters_now))
   pub disks : (e : ℕ) → slice_index disks_before e ≤ slice_index disks_now e
   pub meters : (e : ℕ) → slice_index meters_before e ≤ slice_index meters_now e
+  pub calm : outcome ≡ Done → (disks_now ≡ disks_before) × (meters_now ≡ meters_before)

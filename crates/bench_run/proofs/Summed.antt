@@ -9,7 +9,8 @@ use Rattle.rmat_source.specs.Rmat.{rmat_text}
 use Rattle.endings.specs.declared.ending.Report.{Report}
 use Rattle.endings.specs.declared.ending.Ending.{Ending}
 use Rattle.endings.specs.declared.ending.Ending.TheVariants.{Answered, BadLine, ReadFault, WriteFault}
-use Rattle.run_model.specs.Calls.{Call, Tells}
+use Rattle.run_model.specs.Calls.{Call, Tells, NoneFailed}
+use Rattle.run_model.specs.Causes.{IsAnswered}
 use Rattle.run_model.specs.Printing.{Prints}
 use Rattle.run_model.specs.Runs.{IsRun}
 use Rattle.bench_run.specs.Benches.{made_run, made_edges, summary, IsToldOn, IsSummary, HasPrintedSummary, IsBench}
@@ -80,6 +81,11 @@ module _ {D M : Type 0} (state : D → DiskState) (faults : M → ℕ) (job : Jo
     write_fault_of WriteFault ending run told is = absurd (omega (arith, run.cause))
     write_fault_of made ending run told is = absurd (cc)
 
+    calm_of : (made ending : Ending) → Made made → ToldOn made ending → call.read_faults_after ≡ call.read_faults → IsAnswered ending → NoneFailed state faults call
+    calm_of (Answered report) ending run (inl up) no_reads is = record { reads = no_reads; writes = up.calm; devices = (run.calm tt).devices }
+    calm_of (Answered report) ending run (inr cut) no_reads is = absurd (subst IsAnswered cut.told is)
+    calm_of made ending run told no_reads is = absurd (subst IsAnswered told.same is)
+
     no_read_fault_of : (made ending : Ending) → Made made → ToldOn made ending → ending ≡ ReadFault → ⊥
     no_read_fault_of (Answered report) ending run (inl up) is = cc
     no_read_fault_of (Answered report) ending run (inr cut) is = cc
@@ -104,6 +110,7 @@ module _ {D M : Type 0} (state : D → DiskState) (faults : M → ℕ) (job : Jo
       told_on = told_on;
       written = written_by made ending run told_on;
       write_fault = write_fault_of made ending run told_on;
+      calm = calm_of made ending run told_on no_reads;
       no_read_fault = no_read_fault_of made ending run told_on;
       no_bad_line = no_bad_line;
       unread = unread;

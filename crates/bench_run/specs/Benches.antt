@@ -14,7 +14,8 @@ use Rattle.rmat_source.specs.Rmat.{rmat_text}
 use Rattle.endings.specs.declared.ending.Report.{Report}
 use Rattle.endings.specs.declared.ending.Ending.{Ending}
 use Rattle.endings.specs.declared.ending.Ending.TheVariants.{Answered, BadLine, WriteFault, ReadFault}
-use Rattle.run_model.specs.Calls.{Call, OfTold}
+use Rattle.run_model.specs.Calls.{Call, OfTold, NoneFailed}
+use Rattle.run_model.specs.Causes.{IsAnswered}
 use Rattle.run_model.specs.Printing.{Prints}
 use Rattle.run_model.specs.Runs.{IsRun}
 use Rattle.bench_run.specs.Summaries.{summary_text}
@@ -38,10 +39,11 @@ module _ {D M : Type 0} (state : D → DiskState) (faults : M → ℕ) (job : Jo
   abbrev pub summary : Report → List ℕ → List ℕ
   summary report printed = summary_text job.vertices edges report.rounds printed
 
-  -- the whole summary of what was printed was written, and nothing else
+  -- the whole summary of what was printed was written, and nothing else, and no write failed
   pub record IsSummedUp (report : Report) (printed : List ℕ) (ending : Ending) : Type 0 where
     pub answered : ending ≡ Answered report
     pub prints : Prints call.out call.out_after (summary report printed)
+    pub calm : call.write_faults_after ≡ call.write_faults
 
   -- a write has failed, and a front of the summary was written
   pub record IsCutOff (report : Report) (printed : List ℕ) (ending : Ending) : Type 0 where
@@ -89,8 +91,9 @@ module _ {D M : Type 0} (state : D → DiskState) (faults : M → ℕ) (job : Jo
   HasPrintedSummary WriteFault = OfTold state call.before.store (λ graphs. PrintsSummaryFront)
   HasPrintedSummary _ = Prints call.out call.out_after []
 
-  -- **A bench**: a run over the text of the number, with all that is promised of one, whose answer is summed up. No line is
-  -- called malformed where the graph has room for the vertices of the text, and the source is not read.
+  -- **A bench**: a run over the text of the number, with all that is promised of one, whose answer is summed up. Where it
+  -- has answered no call failed. No line is called malformed where the graph has room for the vertices of the text, and the
+  -- source is not read.
   pub record IsBench (ending : Ending) : Type 0 where
     pub left : List ℕ
     pub printed : List ℕ
@@ -99,6 +102,7 @@ module _ {D M : Type 0} (state : D → DiskState) (faults : M → ℕ) (job : Jo
     pub told_on : IsToldOn printed made ending
     pub written : HasPrintedSummary ending
     pub write_fault : ending ≡ WriteFault → Rose call.write_faults call.write_faults_after
+    pub calm : IsAnswered ending → NoneFailed state faults call
     pub no_read_fault : ¬ (ending ≡ ReadFault)
     pub no_bad_line : 2 ^ scale ≤ job.vertices → (line : ℕ) → ¬ (ending ≡ BadLine line)
     pub unread : call.text_after ≡ call.text

@@ -44,6 +44,7 @@ module _ {D M : Type 0} (state : D → DiskState) (lawful : (d : D) → IsDisk (
   not_dropped : (engines : ℕ) → IsReady state engines (moment store meters seat beat) → IsDrop state faults call engines Memory
   not_dropped engines ready = record {
     cause = refl;
+    calm = λ is. absurd cc;
     printed = prints_none out out refl;
     no_writes = refl;
     unread = refl;

@@ -29,11 +29,12 @@ pub record WhileStoring (own slot round changed : ℕ) (values : List Value) (st
   pub other : SameOther own slot image bytes
   pub itself : (slot_bytes own slot bytes ≡ slot_bytes own slot image) ⊎ (IsClosed own slot bytes ⊎ HoldsRound own slot round changed values bytes)
 
--- All is done, or a count of the disk or of the meter rose. Counts never fall.
+-- All is done and no count rose, or that of the disk or of the meter did. Counts never fall.
 pub record EndsByCause (outcome : Outcome) (disk_before disk_now meter_before meter_now : ℕ) : Type 0 where
   pub ends : (outcome ≡ Done) ⊎ ((outcome ≡ DiskFault) × (Rose disk_before disk_now ⊎ Rose meter_before meter_now))
   pub disk : disk_before ≤ disk_now
   pub meter : meter_before ≤ meter_now
+  pub calm : outcome ≡ Done → (disk_now ≡ disk_before) × (meter_now ≡ meter_before)
 
 -- the values before of a partition stand in a slot, where the round is not the first
 pub record StandBefore (split : Split) (partition slot round : ℕ) (before : List Value) (read : List ℕ) : Type 0 where

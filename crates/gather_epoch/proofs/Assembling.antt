@@ -1,9 +1,10 @@
 -- From what each desk came to, to what all workers have done.
-use Rattle.std.proofs.Common.{◌≡◌, ◌≢◌, ℕ, ◌-◌, ◌^◌, ◌<◌, ◌≤◌, min, Vec, List, map, length, get_or, ap, sym, ◌∙◌, subst, ◌⊎◌, inl, inr, ⊎_elim, arith}
+use Rattle.std.proofs.Common.{◌≡◌, ◌≢◌, ℕ, ◌-◌, ◌^◌, ◌<◌, ◌≤◌, min, Vec, List, map, length, get_or, ap, sym, ◌∙◌, subst, inl, inr, ⊎_elim, arith}
 use Rattle.std.specs.List.{All, range_with_len, sum_by}
 use Rattle.std.specs.Vec.{with_items}
 use Rattle.std.proofs.lemmas.List.{get_or-map, length-map}
 use Rattle.graph_model.specs.Programs.{Rules}
+use Rattle.ports.specs.Devices.{NoneRose, NoMeterRose}
 use Rattle.ports.specs.Disk.{DiskState}
 use Rattle.ports.specs.Faults.{Rose}
 use Rattle.ports.proofs.Rising.{count_rose_before}
@@ -13,7 +14,6 @@ use Rattle.chunk_object.specs.Duty.{IsDutiful}
 use Rattle.chunk_cursor.specs.declared.view.View.{View}
 use Rattle.chunk_cursor.specs.Hold.{Hold}
 use Rattle.phase_model.specs.JobTerms.{terms_of}
-use Rattle.phase_model.specs.Taken.{claims}
 use Rattle.worker_duty.specs.Views.{calls_of, MayWork}
 use Rattle.store_reader.specs.declared.store.Outcome.{Outcome}
 use Rattle.store_reader.specs.declared.store.Outcome.TheVariants.{Done, DiskFault}
@@ -33,7 +33,7 @@ use Rattle.epoch_seats.specs.Made.{HasMadeEpoch}
 use Rattle.epoch_seats.proofs.Worked as seated
 use Rattle.epoch_seats.proofs.Made.{list_is}
 use Rattle.list_moves.proofs.Moving.{given_back}
-use Rattle.list_moves.proofs.Desks.{some_of, at_desk, same_len, listed}
+use Rattle.list_moves.proofs.Desks.{some_of, at_desk, same_len, listed, same_by}
 use Rattle.gather_epoch.specs.declared.crew.Gathered.{Gathered}
 use Rattle.gather_epoch.specs.Desks.{IsLater, IsReady, HasWorkedAt}
 use Rattle.gather_epoch.specs.Dealing.{seat_at, meter_at, replicas_at, spill_at, room_at, number_at, outcome_at, claims_at, admitted_at, AreDealt}
@@ -149,6 +149,14 @@ module _ {P D G M : Type 0} (rules : P → Rules) (state : D → DiskState) (fau
                 (λ written. inr (count_rose_before _ _ _ (omega (arith, step.faults, ap (λ (s : D). (state s).faults) spill_was)) (subst (λ (x : D). Rose (state (spill_at (get_or desks w desk))).faults (state x).faults) (sym spill_is) written)))
                 ((worked w desk within).cause.rose fault)
 
+            -- neither rose where the worker is done
+            pub calm : outcome_at (get_or done w desk) ≡ Done → (faults (get_or meters' w m) ≡ faults (get_or meters w m)) × ((state (get_or spills' w d)).faults ≡ (state (get_or emptied w d)).faults)
+            calm through =
+                let none = (worked w desk within).cause.calm through in (
+                  ap faults meter_is ∙ (none.0 ∙ sym (ap faults meter_was)),
+                  ap (λ (s : D). (state s).faults) spill_is ∙ (none.1 ∙ sym (ap (λ (s : D). (state s).faults) spill_was)),
+                )
+
             pub gathered_as : (r : Replicas) (o : Outcome) → HasGatheredAs rules state faults c (get_or meters w m) (get_or meters' w m) (get_or spills w d) (get_or spills' w d) (get_or replicas' w r) w (list_of (epoch_with the_lens seats') w) (get_or (map outcome_at done) w o)
             gathered_as r o =
                 let at = worked w desk within in
@@ -178,6 +186,25 @@ module _ {P D G M : Type 0} (rules : P → Rules) (state : D → DiskState) (fau
             let lowest = is_of all_outcomes (λ (through : lowest_outcome all_outcomes ≡ Done). absurd (cc)) in
             let below : lowest.0 < the_terms.engines = omega (arith, lowest.1.within, length-map done outcome_at, all, all_desks) in
             (lowest.0, below, λ m d. rose lowest.0 below m d (own_outcome outcome_at done lowest.0 (desk lowest.0 below) lowest.1 ∙ fault))
+
+        -- and none where all are
+        pub none_rose : lowest_outcome all_outcomes ≡ Done → NoneRose state spills emptied → NoMeterRose faults meters meters' × NoneRose state spills spills'
+        none_rose through cut = (
+          same_by faults meters meters' (omega (arith, same_len meter_at done meters' back.meters_are, same_len meter_at desks meters dealt.meters_are, all))
+              (λ w m less.
+              let below : w < the_terms.engines = omega (arith, same_len meter_at desks meters dealt.meters_are, all_desks) in
+              (calm w below m (spill_at (desk w below)) (is_done w below)).0),
+          same_by (λ (s : D). (state s).faults) emptied spills' (omega (arith, same_len spill_at done spills' back.spills_are, same_len spill_at desks emptied dealt.spills_are, all))
+              (λ w d less.
+              let below : w < the_terms.engines = omega (arith, same_len spill_at desks emptied dealt.spills_are, all_desks) in
+              (calm w below (meter_at (desk w below)) d (is_done w below)).1)
+              ∙ cut,
+        )
+          where
+            is_done : (w : ℕ) (below : w < the_terms.engines) → outcome_at (get_or done w (desk w below)) ≡ Done
+            is_done w below =
+                sym (get_or-map outcome_at done w (desk w below) Done (omega (arith, all_desks, all)))
+                ∙ all_done all_outcomes through w Done (omega (arith, length-map done outcome_at, all_desks, all))
 
         pub stopped_by : lowest_outcome all_outcomes ≢ Done → MayStopBy rules state c (lowest_outcome all_outcomes)
         stopped_by = lowest_meets outcome_at done (MayStopBy rules state c) (λ w below. some_of done w below) (λ w below. (worked w (some_of done w below) (omega (arith, all))).stopped)
@@ -211,3 +238,6 @@ module _ {D Z : Type 0} (state : D → DiskState) (number : ℕ) (spills : Vec D
 
   pub emptied_size : All (λ d. (state d).size ≡ 0) news → All (λ d. (state d).size ≡ 0) (with_items spills news).items
   emptied_size empty = subst (All (λ d. (state d).size ≡ 0)) (sym news_are) empty
+
+  pub emptied_calm : NoneRose state lent news → NoneRose state spills.items (with_items spills news).items
+  emptied_calm none = ap (map (λ (d : D). (state d).faults)) news_are ∙ (none ∙ ap (map (λ (d : D). (state d).faults)) same)

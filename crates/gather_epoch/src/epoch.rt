@@ -1,5 +1,6 @@
 //! A gather epoch.
 ghost use Rattle.std.specs.Prelude.{◌≡◌, ◌≢◌, ◌⊎◌, ℕ, ◌<◌, ◌≤◌, All, OnOk, OnErr, length, vec_len, vec_capacity, slice_index_or};
+ghost use Rattle.ports.specs.Devices.{NoneRose, NoMeterRose};
 ghost use Rattle.ports.specs.Faults.{Rose};
 ghost use Rattle.replica_merge.specs.Accumulators.{split_of};
 ghost use Rattle.store_reader.specs.Indexed.{IsServing};
@@ -49,6 +50,7 @@ pub fn gather_all<R: Threads + Sync, P: VertexProgram, D: Disk, G: Gate + Sync>(
     ensures spills { (vec_len spills.new ≡ vec_len spills.old) × All (λ d. (D.state d).beat ≤ context.now.beat.now) spills.new.items }
     ensures goes_on { (w : ℕ) (m : _) (d : D) → w < context.now.serving.job.now.engines → GoesOn D.state D.M.faults (slice_index_or meters.old.items w m) (slice_index_or meters.new.items w m) (slice_index_or spills.old.items w d) (slice_index_or spills.new.items w d) }
     ensures cause { result.outcome ≡ Outcome.DiskFault → RoseOfOne D.state D.M.faults context.now.serving.job.now.engines meters.old.items meters.new.items spills.old.items spills.new.items }
+    ensures calm { result.outcome ≡ Outcome.Done → NoMeterRose D.M.faults meters.old.items meters.new.items × NoneRose D.state spills.old.items spills.new.items }
     ensures stopped { result.outcome ≢ Outcome.Done → MayStopBy P.rules D.state context.now result.outcome }
     ensures few { (result.claims ≤ 1099511627776) × (result.admitted ≤ 512) }
     // What was done.
@@ -85,6 +87,7 @@ fn empty_all<D: Disk>(disks: &mut [D], beat: &Beat) -> Result<(), Failed>
     ensures steps { (w : ℕ) (d : D) → w < length disks.old → IsLater D.state beat.now (slice_index_or disks.old w d) (slice_index_or disks.new w d) }
     ensures empty { OnOk result (All (λ d. (D.state d).size ≡ 0) disks.new) }
     ensures cause { OnErr result ((w : ℕ) × (w < length disks.old) × ((d : D) → Rose (D.state (slice_index_or disks.old w d)).faults (D.state (slice_index_or disks.new w d)).faults)) }
+    ensures calm { OnOk result (NoneRose D.state disks.old disks.new) }
 {
     for disk in disks.iter_mut() {
         empty(disk, beat)?;
@@ -98,6 +101,7 @@ fn empty<D: Disk>(disk: &mut D, beat: &Beat) -> Result<(), Failed>
     ensures step { IsLater D.state beat.now disk.old disk.new }
     ensures empty { OnOk result ((D.state disk.new).size ≡ 0) }
     ensures cause { OnErr result (Rose (D.state disk.old).faults (D.state disk.new).faults) }
+    ensures calm { OnOk result ((D.state disk.new).faults ≡ (D.state disk.old).faults) }
 {
     disk.cut(beat, 0)
 }

@@ -46,6 +46,7 @@ module _ {D M : Type 0} (state : D → DiskState) (faults : M → ℕ) where
         (λ middle. ⊎_elim (λ first. inl first) (λ rose. inr (⊎_elim (λ read. inl (rose_later (faults a.meter) (faults b.meter) (faults d.meter) read y.reads)) (λ write. inr (rose_later (state a.spill).faults (state b.spill).faults (state d.spill).faults write y.writes)) rose)) (x.caused middle))
         (λ rose. inr (⊎_elim (λ read. inl (count_rose_before (faults a.meter) (faults b.meter) (faults d.meter) x.reads read)) (λ write. inr (count_rose_before (state a.spill).faults (state b.spill).faults (state d.spill).faults x.writes write)) rose))
         (y.caused is);
+    calm = λ is. let late = y.calm is in let early = x.calm late.0 in (early.0, late.1 ∙ early.1, late.2 ∙ early.2);
   }
     where
       rose_later : (k m n : ℕ) → Rose k m → m ≤ n → Rose k n

@@ -13,7 +13,7 @@ use Rattle.chunk_model.specs.Layout.{edge_layout, update_layout}
 use Rattle.phase_model.specs.Taken.{records_taken}
 use Rattle.phase_model.specs.Sums.{sum_at, sums_over}
 use Rattle.worker_duty.specs.Views.{calls_of, taken_by_seat}
-use Rattle.store_reader.specs.declared.store.Outcome.TheVariants.{DiskFault}
+use Rattle.store_reader.specs.declared.store.Outcome.TheVariants.{Done, DiskFault}
 use Rattle.replica_merge.specs.Accumulators.{len_of, accumulators_of, LiesWithin}
 use Rattle.gather_phase.specs.declared.desk.GatherContext.{GatherContext}
 use Rattle.gather_phase.specs.declared.desk.GatherDesk.{GatherDesk}
@@ -38,8 +38,9 @@ module _ {P D G M : Type 0} (rules : P → Rules) (state : D → DiskState) wher
         → (partition : ℕ) → partition < c.serving.split.now.parts → accumulators_of desk.replicas device partition ≡ over_partition c.serving.split.now (out_degree (records_taken records (calls_of desk.seat.view))) partition
 
 module _ {D M : Type 0} (state : D → DiskState) (faults : M → ℕ) where
-  -- counts of faults never fall, and a disk fault is answered only where that of the meter or of the spill device rose
+  -- counts of faults never fall, a disk fault is answered only where that of the meter or of the spill device rose, and where the outcome is Done neither did
   pub record HasFaultCause (old new : GatherDesk D M) : Type 0 where
     pub reads : faults old.meter ≤ faults new.meter
     pub writes : (state old.spill).faults ≤ (state new.spill).faults
     pub rose : new.outcome ≡ DiskFault → Rose (faults old.meter) (faults new.meter) ⊎ Rose (state old.spill).faults (state new.spill).faults
+    pub calm : new.outcome ≡ Done → (faults new.meter ≡ faults old.meter) × ((state new.spill).faults ≡ (state old.spill).faults)

@@ -44,7 +44,7 @@ module _ {D M : Type 0} (state : D → DiskState) where
   Takes false serving items = HasRecords state update_layout serving items
 
 module _ {D M : Type 0} (state : D → DiskState) (faults : M → ℕ) where
-  -- how a desk goes on: its worker, split and rooms stay, counts of faults never fall, a spill device that tells its bytes still does, and a disk fault is answered only where a count rose
+  -- how a desk goes on: its worker, split and rooms stay, counts of faults never fall, a spill device that tells its bytes still does, a disk fault is answered only where a count rose, and where the outcome is Done it was so, and none rose
   pub record GoesOn (old new : GatherDesk D M) : Type 0 where
     pub worker : new.worker ≡ old.worker
     pub split : split_of new.replicas ≡ split_of old.replicas
@@ -53,6 +53,7 @@ module _ {D M : Type 0} (state : D → DiskState) (faults : M → ℕ) where
     pub writes : (state old.spill).faults ≤ (state new.spill).faults
     pub told : (bytes : List ℕ) → (state old.spill).bytes ≡ Some bytes → (now : List ℕ) × ((state new.spill).bytes ≡ Some now)
     pub caused : new.outcome ≡ DiskFault → (old.outcome ≡ DiskFault) ⊎ (Rose (faults old.meter) (faults new.meter) ⊎ Rose (state old.spill).faults (state new.spill).faults)
+    pub calm : new.outcome ≡ Done → (old.outcome ≡ Done) × (faults new.meter ≡ faults old.meter) × ((state new.spill).faults ≡ (state old.spill).faults)
 
 module _ {P D G M : Type 0} (rules : P → Rules) (state : D → DiskState) where
   abbrev pub adding_of : GatherContext P D G M → Adding

@@ -8,7 +8,7 @@ ghost use Rattle.chunk_cursor.specs.View.{knows, MayClaim};
 ghost use Rattle.chunk_model.specs.ChunkBytes.{chunk_width};
 ghost use Rattle.partitioner.specs.Splits.{IsSplit};
 ghost use Rattle.chunk_file.specs.Places.{places_of};
-ghost use Rattle.store_reader.specs.Serving.{told_at, place_at, AddsClaim, HasServed, HasDevices, ReadsAt, RefusesAt};
+ghost use Rattle.store_reader.specs.Serving.{told_at, place_at, AddsClaim, HasServed, OnServed, HasDevices, ReadsAt, RefusesAt};
 ghost use Rattle.phase_model.specs.Sums.{counts_of};
 ghost use Rattle.replica_merge.specs.Accumulators.{split_of, begun_of, sums_of};
 ghost use Rattle.gather_phase.specs.Summing.{AreWithin, ComeFrom, HasSummed};
@@ -145,6 +145,7 @@ fn read_records<R: Record, D: Disk>(
     ensures rooms { (length bytes.new.items ≡ length bytes.old.items) × (length into.new.items ≡ length into.old.items) }
     ensures table { seat.new.table ≡ seat.old.table }
     ensures later { D.M.faults meter.old ≤ D.M.faults meter.new }
+    ensures calm { OnServed result (D.M.faults meter.new ≡ D.M.faults meter.old) }
     ensures served { HasServed
         (AddsClaim seat.old.view seat.new.view (cursor_of engine partition))
         (λ t count. ReadsAt (R.layout serving.now.job.now.format) serving.now.split.now partition (place_at serving.now.index.now engine partition t)

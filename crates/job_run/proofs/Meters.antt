@@ -2,7 +2,7 @@
 use Rattle.std.proofs.Common.{◌≡◌, ℕ, ◌<◌, List, length, get_or, slice_set, sym, ◌∙◌, subst}
 use Rattle.std.proofs.lemmas.List.{get_or_default, get_or-set_same}
 use Rattle.ports.specs.Faults.{Rose}
-use Rattle.ports.specs.Devices.{MetersGoOn}
+use Rattle.ports.specs.Devices.{MetersGoOn, NoMeterRose}
 use Rattle.answer_lines.specs.declared.print.PrintFault.{PrintFault}
 use Rattle.answer_lines.specs.declared.print.PrintFault.TheVariants.{DiskFault}
 use Rattle.answer_lines.specs.Printing.{IsCaused as IsCausedPrinting}
@@ -26,9 +26,9 @@ module _ {M : Type 0} (faults : M → ℕ) where
         (subst (λ a. Rose (faults old) (faults a)) (sym (get_or-set_same meters k new m below)) rose),
   )
 
-  module _ (old mid new : List M) (first : MetersGoOn faults old mid) (writes writes' : ℕ) where
+  module _ (old mid new : List M) (first : MetersGoOn faults old mid) (calm : NoMeterRose faults old mid) (writes writes' : ℕ) where
     caused_since : (finish : Finish) → IsCaused faults mid new writes writes' finish → IsCaused faults old new writes writes' finish
-    caused_since (Answered done) caused = caused
+    caused_since (Answered done) caused = (caused.0 ∙ calm, caused.1)
     caused_since (NotWritten done) caused = caused
     caused_since (NotRead done) caused = meter_rose_later faults old mid new first caused
     caused_since (Stopped fault) caused = caused

@@ -22,6 +22,7 @@ module _ {D M : Type 0} (state : D → DiskState) (faults : M → ℕ) (rules : 
     keeps = run.keeps;
     meters = meters_then faults from.meters mid new run.meters later;
     rose = λ is. absurd cc;
+    calm = run.calm;
     beats = run.beats;
     epochs = run.epochs;
     through = run.through;

@@ -1,5 +1,5 @@
 -- What stands at desks, and what stands in the lists that were dealt to them.
-use Rattle.std.proofs.Common.{◌≡◌, ℕ, ◌<◌, List, [], ◌∷◌, map, length, get_or, sym, ◌∙◌, ap, subst, arith}
+use Rattle.std.proofs.Common.{◌≡◌, ℕ, suc, ◌<◌, List, [], ◌∷◌, map, length, get_or, refl, sym, ◌∙◌, ap, subst, arith}
 use Rattle.std.specs.List.{All}
 use Rattle.std.proofs.lemmas.List.{get_or-map, length-map}
 
@@ -21,3 +21,13 @@ listed f P desks list are each w e below =
     let within : w < length desks = omega (arith, same_len f desks list are) in
     let d = some_of desks w within in
     subst P (at_desk f desks list are w d e within) (each w d within)
+
+-- lists whose entries f cannot tell apart, each from the one in its place
+pub same_by : {X Y : Type 0} (f : X → Y) (olds news : List X) → length news ≡ length olds → ((w : ℕ) (x : X) → w < length olds → f (get_or news w x) ≡ f (get_or olds w x)) → map f news ≡ map f olds
+same_by f [] [] many same = refl
+same_by f [] (new ∷ news) many same = absurd (omega (arith, many))
+same_by f (old ∷ olds) [] many same = absurd (omega (arith, many))
+same_by {X} f (old ∷ olds) (new ∷ news) many same =
+    let rest : map f news ≡ map f olds = same_by f olds news (omega (arith, many)) (λ w x below. same (suc w) x (omega (arith, below))) in
+    let here : f new ≡ f old = same 0 old (omega arith) in
+    λ i. here i ∷ rest i

@@ -1,5 +1,5 @@
 -- Several devices, as they were and as they are.
-use Rattle.std.specs.Prelude.{◌≡◌, ℕ, ◌<◌, List, length, slice_index_or, ◌≤◌}
+use Rattle.std.specs.Prelude.{◌≡◌, ℕ, ◌<◌, List, length, map, slice_index_or, ◌≤◌}
 use Rattle.ports.specs.Disk.{DiskState}
 use Rattle.ports.specs.Faults.{Rose}
 
@@ -12,6 +12,14 @@ pub record Each {X : Type 0} (state : X → DiskState) (R : DiskState → DiskSt
 abbrev pub OneRose : {X : Type 0} → (X → DiskState) → (olds news : List X) → Type 0
 OneRose {X} state olds news =
     (e : ℕ) × (e < length olds) × ((d : X) → Rose (state (slice_index_or olds e d)).faults (state (slice_index_or news e d)).faults)
+
+-- and of none: each stands as it was
+abbrev pub NoneRose : {X : Type 0} → (X → DiskState) → (olds news : List X) → Type 0
+NoneRose {X} state olds news = map (λ (x : X). (state x).faults) news ≡ map (λ (x : X). (state x).faults) olds
+
+-- the same of meters, which count the reads that failed
+abbrev pub NoMeterRose : {M : Type 0} → (M → ℕ) → (olds news : List M) → Type 0
+NoMeterRose faults olds news = map faults news ≡ map faults olds
 
 -- counts that never fall
 pub record MetersGoOn {M : Type 0} (faults : M → ℕ) (old new : List M) : Type 0 where

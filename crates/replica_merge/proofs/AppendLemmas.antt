@@ -1,5 +1,5 @@
 -- Several writes at the end of a disk, as one.
-use Rattle.std.proofs.Common.{◌≡◌, ℕ, ◌+◌, ◌<◌, ◌≤◌, List, [], ◌++◌, length, Option, Some, None, IfSome, Result, Ok, Err, IsErr, inl, inr, sym, ◌∙◌, ap, subst, arith, length-append, append_assoc}
+use Rattle.std.proofs.Common.{◌≡◌, ℕ, ◌+◌, ◌<◌, ◌≤◌, List, [], ◌++◌, length, Option, Some, None, IfSome, Result, Ok, Err, IsErr, inl, inr, refl, sym, ◌∙◌, ap, subst, arith, length-append, append_assoc}
 use Rattle.std.proofs.lemmas.List.{append-nil}
 use Rattle.ports.specs.Bytes.{Torn, after_write}
 use Rattle.ports.specs.Disk.{DiskState, IsDisk, After, Writes}
@@ -42,7 +42,7 @@ appended_none number disk x law beat = record {
   no_shorter = omega arith;
   no_longer = omega arith;
   beat = beat;
-  cause = record { later = omega arith; failed = tt };
+  cause = record { later = omega arith; failed = tt; calm = refl };
 }
 
 told_append : (size : ℕ) (piece : List ℕ) (x y : Option (List ℕ)) → IfSome x (λ bytes. size ≡ length bytes) →
@@ -115,7 +115,7 @@ module _ {T E : Type 0} (number : ℕ) (a b : List ℕ) (old mid new : DiskState
     no_shorter = omega (arith, first.no_shorter, next.no_shorter);
     no_longer = omega (arith, first.grown, next.no_longer, length-append a b);
     beat = next.beat;
-    cause = record { later = omega (arith, first.cause.later, next.cause.later); failed = tt };
+    cause = record { later = omega (arith, first.cause.later, next.cause.later); failed = tt; calm = next.cause.calm ∙ first.cause.calm };
   }
   appended_then (Err e) law first next = record {
     any_moment = then_any_moment (Err e) law first next;
@@ -125,7 +125,7 @@ module _ {T E : Type 0} (number : ℕ) (a b : List ℕ) (old mid new : DiskState
     no_shorter = omega (arith, first.no_shorter, next.no_shorter);
     no_longer = omega (arith, first.grown, next.no_longer, length-append a b);
     beat = next.beat;
-    cause = record { later = omega (arith, first.cause.later, next.cause.later); failed = omega (arith, first.cause.later, next.cause.failed) };
+    cause = record { later = omega (arith, first.cause.later, next.cause.later); failed = omega (arith, first.cause.later, next.cause.failed); calm = tt };
   }
 
 -- a failure within a front of a piece is one within the piece
@@ -142,5 +142,5 @@ appended_in_part number front piece old new e (Err f) within failed part = recor
   no_shorter = part.no_shorter;
   no_longer = omega (arith, part.no_longer);
   beat = part.beat;
-  cause = record { later = part.cause.later; failed = part.cause.failed };
+  cause = record { later = part.cause.later; failed = part.cause.failed; calm = tt };
 }

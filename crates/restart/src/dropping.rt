@@ -4,11 +4,11 @@ ghost use Rattle.std.specs.List.{All};
 ghost use Rattle.ports.specs.Disk.{InEveryImage};
 ghost use Rattle.ports.specs.Faults.{HasCause, HasCauseOfTwo, Rose};
 ghost use Rattle.ports.specs.Stops.{EachLeaves, IsStop, AreImages};
-ghost use Rattle.ports.specs.Devices.{Each, OneRose};
+ghost use Rattle.ports.specs.Devices.{Each, OneRose, NoneRose};
 ghost use Rattle.store_model.specs.Heads.{IsShutGraph};
 ghost use Rattle.store_model.specs.Kept.{IsUnprepared};
 ghost use Rattle.store_reader.specs.Devices.{IsOpenDevice, IsShutDevice};
-ghost use Rattle.restart.specs.Devices.{EachRow, OneRowRose};
+ghost use Rattle.restart.specs.Devices.{EachRow, OneRowRose, NoRowRose};
 ghost use Rattle.restart.specs.Dropping.{Closes, Empties, HandsBack, IsEmpty, WhileDropped, WhileEmptied};
 
 use ports::{Beat, Disk, Failed, cut_synced, write_synced};
@@ -56,11 +56,16 @@ pub fn drop_store<D: Disk>(
     ensures back_lanes { EachRow (λ row. row.items) D.state (HandsBack beat.new) store.old.lanes.items store.new.lanes.items }
     ensures back_spills { Each D.state (HandsBack beat.new) store.old.spills.items store.new.spills.items }
     ensures later { D.M.faults meter.old ≤ D.M.faults meter.new }
+    ensures calm { OnOk result (D.M.faults meter.new ≡ D.M.faults meter.old) }
     ensures cause { OnErr result (Rose (D.M.faults meter.old) (D.M.faults meter.new)
         ⊎ OneRose D.state store.old.graphs.items store.new.graphs.items
         ⊎ OneRose D.state store.old.values.items store.new.values.items
         ⊎ OneRowRose (λ row. row.items) D.state store.old.lanes.items store.new.lanes.items
         ⊎ OneRose D.state store.old.spills.items store.new.spills.items) }
+    ensures calm_graphs { OnOk result (NoneRose D.state store.old.graphs.items store.new.graphs.items) }
+    ensures calm_values { OnOk result (NoneRose D.state store.old.values.items store.new.values.items) }
+    ensures calm_lanes { OnOk result (NoRowRose (λ row. row.items) D.state store.old.lanes.items store.new.lanes.items) }
+    ensures calm_spills { OnOk result (NoneRose D.state store.old.spills.items store.new.spills.items) }
 {
     close_all(&mut store.graphs, meter, beat)?;
     beat.next();
@@ -73,7 +78,9 @@ fn close_all<D: Disk>(graphs: &mut [D], meter: &mut D::M, beat: &Beat) -> Result
     ensures closes { Each D.state (Closes beat.now) graphs.old graphs.new }
     ensures shut { OnOk result (All (λ disk. InEveryImage (D.state disk) IsShutGraph) graphs.new) }
     ensures later { D.M.faults meter.old ≤ D.M.faults meter.new }
+    ensures calm { OnOk result (D.M.faults meter.new ≡ D.M.faults meter.old) }
     ensures cause { OnErr result (Rose (D.M.faults meter.old) (D.M.faults meter.new) ⊎ OneRose D.state graphs.old graphs.new) }
+    ensures calm_graphs { OnOk result (NoneRose D.state graphs.old graphs.new) }
 {
     for disk in graphs.iter_mut() {
         close_gate(disk, meter, beat)?;
@@ -127,6 +134,10 @@ fn empty_store<D: Disk>(store: &mut Store<D>, beat: &Beat) -> Result<(), Failed>
         ⊎ OneRose D.state store.old.values.items store.new.values.items
         ⊎ OneRowRose (λ row. row.items) D.state store.old.lanes.items store.new.lanes.items
         ⊎ OneRose D.state store.old.spills.items store.new.spills.items) }
+    ensures calm_graphs { OnOk result (NoneRose D.state store.old.graphs.items store.new.graphs.items) }
+    ensures calm_values { OnOk result (NoneRose D.state store.old.values.items store.new.values.items) }
+    ensures calm_lanes { OnOk result (NoRowRose (λ row. row.items) D.state store.old.lanes.items store.new.lanes.items) }
+    ensures calm_spills { OnOk result (NoneRose D.state store.old.spills.items store.new.spills.items) }
 {
     empty_all(&mut store.graphs, beat)?;
     empty_all(&mut store.values, beat)?;
@@ -140,6 +151,7 @@ fn empty_rows<D: Disk>(rows: &mut [Vec<D>], beat: &Beat) -> Result<(), Failed>
     ensures empties { EachRow (λ row. row.items) D.state (Empties beat.now) rows.old rows.new }
     ensures empty { OnOk result (All (λ row. All (λ disk. IsEmpty (D.state disk)) row.items) rows.new) }
     ensures cause { OnErr result (OneRowRose (λ row. row.items) D.state rows.old rows.new) }
+    ensures calm { OnOk result (NoRowRose (λ row. row.items) D.state rows.old rows.new) }
 {
     for row in rows.iter_mut() {
         empty_all(row, beat)?;
@@ -153,6 +165,7 @@ fn empty_all<D: Disk>(disks: &mut [D], beat: &Beat) -> Result<(), Failed>
     ensures empties { Each D.state (Empties beat.now) disks.old disks.new }
     ensures empty { OnOk result (All (λ disk. IsEmpty (D.state disk)) disks.new) }
     ensures cause { OnErr result (OneRose D.state disks.old disks.new) }
+    ensures calm { OnOk result (NoneRose D.state disks.old disks.new) }
 {
     for disk in disks.iter_mut() {
         empty(disk, beat)?;

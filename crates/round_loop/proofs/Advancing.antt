@@ -19,7 +19,7 @@ use Rattle.store_reader.specs.declared.store.Outcome.{Outcome}
 use Rattle.store_reader.specs.declared.store.Outcome.TheVariants.{Done, DiskFault}
 use Rattle.phase_model.specs.JobTerms.{terms_of}
 use Rattle.round_steps.specs.Epochs.{IsWhole, HasFewChunks, ForRound}
-use Rattle.round_steps.specs.Going.{IsStore, KeepsStore, SomeRose}
+use Rattle.round_steps.specs.Going.{IsStore, KeepsStore, SomeRose, NoCountRose}
 use Rattle.round_steps.specs.Standing.{IsSound, HaveEdges, HasEdges, StandsBefore, IsBefore}
 use Rattle.round_steps.specs.Damage.{IsDamage, NamesDamage}
 use Rattle.round_steps.specs.Rounds.{StoresRound, MakesEpochs, earlier_values}
@@ -36,7 +36,7 @@ use Rattle.round_loop.specs.Coming.{GoesOn, ComesWell, HasCome}
 use Rattle.round_loop.proofs.Reaching.{next_is_due, reached_of_due}
 use Rattle.round_loop.proofs.Stopping.{other_slot, made_stands, before_still, one_more, more_since}
 use Rattle.round_steps.proofs.Kept.{meters_then}
-use Rattle.round_loop.proofs.Keeping.{kept_then, kept_by_step, told_still}
+use Rattle.round_loop.proofs.Keeping.{kept_then, kept_by_step, told_still, none_rose_then}
 use Rattle.round_loop.proofs.Epochs.{through_then, fronts_then, are_then, of_round}
 
 pub made_before_sent : (start : Start) → first_made start ≤ first_sent start
@@ -68,6 +68,7 @@ pub record Stepped {D M : Type 0} (state : D → DiskState) (faults : M → ℕ)
   pub through : outcome ≡ Done → new.beat ≡ mid.beat + 1
   pub few : helped ≤ 1024
   pub cause : outcome ≡ DiskFault → SomeRose state faults mid.store new.store mid.meters new.meters
+  pub calm : outcome ≡ Done → NoCountRose state faults mid.store new.store mid.meters new.meters
   pub sound : (records : ℕ → ℕ → List Edge) → HaveEdges state job split index mid.store.graphs.items records → RowsTell state mid.store.lanes.items → IsSound outcome
   pub damaged : NamesDamage (IsDamage state job split index mid.store.graphs.items new.store.lanes.items) outcome
   pub epochs : MakesEpochs state rules job split index round changed_only t mid.store (outcome ≡ Done) mid.seat new.seat took helped
@@ -185,6 +186,7 @@ module _ {D M : Type 0} (state : D → DiskState) (faults : M → ℕ) (laws : (
         store = step.store;
         keeps = kept_then state from.store mid.store new.store come.keeps (kept_by_step state (split_for job) (round + 1) (mid.beat + 1) (outcome ≡ Done) mid.store new.store step.keeps);
         meters = meters_then faults from.meters mid.meters new.meters come.meters step.meters;
+        calm = λ done. none_rose_then state faults from.store mid.store new.store from.meters mid.meters new.meters (come.calm tt) (step.calm done);
         through = through_then (terms_of job) from.seat mid.seat new.seat took helped took' helped' epochs more come.through step.epochs.through;
         fronts = fronts_then (terms_of job) epochs more (come.whole tt) step.epochs.some step.epochs.fronts;
         few = All-append HasFewChunks epochs more come.few step.epochs.bounds;

@@ -15,7 +15,7 @@ use Rattle.store_reader.specs.declared.store.Outcome.TheVariants.{Done, DiskFaul
 use Rattle.epoch_seats.specs.Between.{IsBetweenEpochs}
 use Rattle.phase_model.specs.JobTerms.{terms_of}
 use Rattle.round_steps.specs.Epochs.{IsWhole, HasFewChunks}
-use Rattle.round_steps.specs.Going.{IsStore, KeepsStore, SomeRose}
+use Rattle.round_steps.specs.Going.{IsStore, KeepsStore, SomeRose, NoCountRose}
 use Rattle.round_steps.specs.Standing.{IsSound, HaveEdges, HasEdges, StandsBefore, IsBefore}
 use Rattle.round_steps.specs.Damage.{IsEdgeDamage, NamesDamage}
 use Rattle.round_steps.specs.Rounds.{StoresRound, MakesFirst}
@@ -28,7 +28,7 @@ use Rattle.round_loop.specs.Coming.{ComesWell, HasCome}
 use Rattle.round_loop.proofs.Reaching.{due_of_reached, reached_of_due}
 use Rattle.round_loop.proofs.Stopping.{made_stands, one_more, more_since, none_yet}
 use Rattle.round_steps.proofs.Kept.{meters_same}
-use Rattle.round_loop.proofs.Keeping.{kept_same, kept_by_step, told_still}
+use Rattle.round_loop.proofs.Keeping.{kept_same, kept_by_step, told_still, none_rose}
 use Rattle.round_loop.proofs.Epochs.{through_none, of_first}
 
 -- what is known of the first round
@@ -40,6 +40,7 @@ pub record FirstMade {D M : Type 0} (state : D → DiskState) (faults : M → �
   pub through : outcome ≡ Done → new.beat ≡ from.beat + 1
   pub few : helped ≤ 1024
   pub cause : outcome ≡ DiskFault → SomeRose state faults from.store new.store from.meters new.meters
+  pub calm : outcome ≡ Done → NoCountRose state faults from.store new.store from.meters new.meters
   pub sound : (records : ℕ → ℕ → List Edge) → HaveEdges state job split index from.store.graphs.items records → IsSound outcome
   pub damaged : NamesDamage (IsEdgeDamage state job split index from.store.graphs.items) outcome
   pub epochs : MakesFirst rules.counts job index (outcome ≡ Done) from.seat new.seat took helped
@@ -53,6 +54,7 @@ module _ {D M : Type 0} (state : D → DiskState) (faults : M → ℕ) (laws : (
     store = ready;
     keeps = kept_same state from.store;
     meters = meters_same faults from.meters;
+    calm = λ _. none_rose state faults from.store from.meters;
     through = through_none (terms_of job) from.seat between;
     fronts = tt;
     few = All-nil HasFewChunks;
@@ -130,6 +132,7 @@ module _ {D M : Type 0} (state : D → DiskState) (faults : M → ℕ) (laws : (
       store = first.store;
       keeps = kept_by_step state (split_for job) 0 (from.beat + 1) (outcome ≡ Done) from.store new.store first.keeps;
       meters = first.meters;
+      calm = first.calm;
       through = first.epochs.through;
       fronts = first.epochs.fronts;
       few = first.epochs.bounds;

@@ -1,7 +1,8 @@
 -- How a run ends.
-use Rattle.std.proofs.Common.{◌≡◌, ◌≢◌, ℕ, ◌+◌, ◌-◌, ◌*◌, ◌<◌, ◌≤◌, Bool, true, false, if◌then◌else◌, None, List, [], ◌∷◌, ◌++◌, length, get_or, Result, Ok, Err, IsErrOf, inl, inr, refl, sym, ◌∙◌, ap, subst, arith}
+use Rattle.std.proofs.Common.{◌≡◌, ◌≢◌, ℕ, ◌+◌, ◌-◌, ◌*◌, ◌<◌, ◌≤◌, Bool, true, false, if◌then◌else◌, None, List, [], ◌∷◌, ◌++◌, length, get_or, Result, Ok, Err, OnOk, IsErrOf, inl, inr, refl, sym, ◌∙◌, ap, subst, arith}
 use Rattle.std.proofs.lemmas.Bool.{cases_lt}
-use Rattle.std.proofs.lemmas.List.{get_or_append_left, length-append}
+use Rattle.std.proofs.lemmas.List.{get_or_append_left, length-append, map-append}
+use Rattle.std.proofs.lemmas.Result.{on_ok_weaker}
 use Rattle.graph_model.specs.declared.edge.Edge.{Edge}
 use Rattle.graph_model.specs.declared.job.Job.{Job}
 use Rattle.graph_model.specs.Programs.{Rules}
@@ -9,7 +10,7 @@ use Rattle.graph_model.specs.Rounds.{IsUnsettled, IsLastRound}
 use Rattle.graph_model.proofs.RoundLemmas.{unsettled_has_no_last}
 use Rattle.ports.specs.Disk.{DiskState, IsDisk}
 use Rattle.ports.specs.Faults.{Rose}
-use Rattle.ports.specs.Devices.{MetersGoOn}
+use Rattle.ports.specs.Devices.{MetersGoOn, NoMeterRose}
 use Rattle.chunk_object.specs.Epochs.{Epoch, all_calls}
 use Rattle.chunk_cursor.specs.declared.view.View.{View}
 use Rattle.chunk_file.specs.declared.index.Place.{Place}
@@ -26,7 +27,6 @@ use Rattle.round_steps.specs.Going.{IsStore, SomeRose}
 use Rattle.round_steps.specs.Standing.{IsSound, HaveEdges}
 use Rattle.round_steps.specs.Damage.{IsDamage, NamesDamage}
 use Rattle.round_loop.specs.declared.run.Start.{Start}
-use Rattle.round_loop.specs.declared.run.Start.TheVariants as start_of
 use Rattle.std.proofs.Math.Seq.{get_or-append_seam}
 use Rattle.round_loop.specs.declared.run.Done.{Done}
 use Rattle.round_loop.specs.declared.fault.RoundFault.{RoundFault}
@@ -120,6 +120,7 @@ module _ {D M : Type 0} (state : D → DiskState) (faults : M → ℕ) (rules : 
       keeps = come.keeps;
       meters = come.meters;
       rose = λ is. rose (disk_fault_of outcome fault of (err_is fault faulty.DiskFault is));
+      calm = tt;
       beats = (come.rises.0, omega (arith, come.rises.1));
       epochs = epochs;
       through = through;
@@ -151,6 +152,7 @@ module _ {D M : Type 0} (state : D → DiskState) (faults : M → ℕ) (rules : 
         keeps = come.keeps;
         meters = come.meters;
         rose = λ is. absurd cc;
+        calm = (come.calm is_done).1;
         beats = (come.rises.0, omega (arith, come.rises.1));
         epochs = epochs;
         through = through;
@@ -191,6 +193,7 @@ module _ {D M : Type 0} (state : D → DiskState) (faults : M → ℕ) (rules : 
             keeps = come.keeps;
             meters = come.meters;
             rose = λ is. absurd cc;
+            calm = tt;
             beats = (come.rises.0, omega (arith, come.rises.1));
             epochs = epochs;
             through = through;
@@ -222,6 +225,7 @@ module _ {D M : Type 0} (state : D → DiskState) (faults : M → ℕ) (rules : 
     keeps = kept_same state from.store;
     meters = meters_same faults from.meters;
     rose = λ is. absurd cc;
+    calm = tt;
     beats = (omega arith, omega arith);
     epochs = [];
     through = through_none (terms_of job) from.seat between;
@@ -281,12 +285,16 @@ module _ {D M : Type 0} (state : D → DiskState) (faults : M → ℕ) (rules : 
       | inr device ↦ inr device
     ]
 
+    pub calm_with : OnOk result (NoMeterRose faults olds news) → OnOk result (NoMeterRose faults (olds ++ own ∷ []) (news ++ own ∷ []))
+    calm_with calm = on_ok_weaker result (λ still. map-append faults news (own ∷ []) ∙ (ap (λ counts. counts ++ faults own ∷ []) still ∙ sym (map-append faults olds (own ∷ [])))) calm
+
     pub run_with : HasRun state faults rules job start index (moment old_store (olds ++ own ∷ []) old_seat old_beat) (moment new_store (news ++ own ∷ []) new_seat new_beat) result
     run_with = record {
       store = run.store;
       keeps = run.keeps;
       meters = meters_with;
       rose = λ is. rose_with (run.rose is);
+      calm = run.calm;
       beats = run.beats;
       epochs = run.epochs;
       through = run.through;

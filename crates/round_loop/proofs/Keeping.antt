@@ -7,7 +7,7 @@ use Rattle.ports.specs.Devices.{OneRose, MetersGoOn}
 use Rattle.store_reader.specs.declared.store.Store.{Store}
 use Rattle.update_lanes.specs.Lanes.{GoOn}
 use Rattle.partitioner.specs.declared.split.Split.{Split}
-use Rattle.round_steps.specs.Going.{Tell, KeepsStore, SomeRose}
+use Rattle.round_steps.specs.Going.{Tell, KeepsStore, SomeRose, NoCountRose}
 use Rattle.round_steps.proofs.Kept.{meter_rose_later}
 use Rattle.scatter_epoch.specs.Scattering.{RowsGoOn}
 use Rattle.scatter_epoch.specs.Sent.{RowsTell}
@@ -79,6 +79,16 @@ module _ {D M : Type 0} (state : D → DiskState) where
   }
 
   module _ (faults : M → ℕ) where
+    -- no count rose: in no step, and in two
+    pub none_rose : (store : Store D M) (xs : List M) → NoCountRose state faults store store xs xs
+    none_rose store xs = (refl, record { values = refl; lanes = refl; spills = refl })
+
+    pub none_rose_then : (old mid new : Store D M) (xs ys zs : List M) → NoCountRose state faults old mid xs ys → NoCountRose state faults mid new ys zs → NoCountRose state faults old new xs zs
+    none_rose_then old mid new xs ys zs first next = (
+      next.0 ∙ first.0,
+      record { values = next.1.values ∙ first.1.values; lanes = next.1.lanes ∙ first.1.lanes; spills = next.1.spills ∙ first.1.spills },
+    )
+
     -- what rose in a later step rose since the beginning
     pub rose_since : (old mid new : Store D M) (xs ys zs : List M) → Keeps state old mid → MetersGoOn faults xs ys → SomeRose state faults mid new ys zs → SomeRose state faults old new xs zs
     rose_since old mid new xs ys zs keeps meters rose = elim rose [

@@ -53,6 +53,7 @@ module _ {D M : Type 0} (state : D → DiskState) (faults : M → ℕ) (rules : 
     store = come.store;
     keeps = come.keeps;
     meters = come.meters;
+    calm = λ _. come.calm is;
     through = come.through;
     fronts = come.fronts;
     few = come.few;

@@ -11,7 +11,7 @@ use Rattle.chunk_object.specs.Epochs.{Epoch}
 use Rattle.chunk_file.specs.declared.index.Place.{Place}
 use Rattle.phase_model.specs.JobTerms.{terms_of}
 use Rattle.round_steps.specs.Epochs.{IsWhole, WholeButLast, HasFewChunks, GoesThrough}
-use Rattle.round_steps.specs.Going.{IsStore, IsOpenEverywhere}
+use Rattle.round_steps.specs.Going.{IsStore, NoCountRose, IsOpenEverywhere}
 use Rattle.round_steps.specs.Standing.{HasEdges}
 use Rattle.round_loop.specs.declared.run.Start.{Start}
 use Rattle.round_loop.specs.declared.course.Progress.{Progress}
@@ -56,6 +56,7 @@ module _ {D M : Type 0} (state : D → DiskState) (faults : M → ℕ) (rules : 
     pub store : IsStore state (split_for job) new.beat new.store
     pub keeps : Keeps state old.store new.store
     pub meters : MetersGoOn faults old.meters new.meters
+    pub calm : done → NoCountRose state faults old.store new.store old.meters new.meters
     pub through : GoesThrough (terms_of job) old.seat new.seat took helped epochs
     pub fronts : WholeButLast (terms_of job) epochs
     pub few : All HasFewChunks epochs

@@ -1,5 +1,5 @@
 -- What a run is seen to do.
-use Rattle.std.specs.Prelude.{◌≡◌, ◌⊎◌, ℕ, ◌+◌, ◌-◌, ◌<◌, ◌≤◌, None, List, length, slice_index_or, flat_map, Result, IfOk, IsErr, IsErrOf}
+use Rattle.std.specs.Prelude.{◌≡◌, ◌⊎◌, ℕ, ◌+◌, ◌-◌, ◌<◌, ◌≤◌, None, List, length, slice_index_or, flat_map, Result, IfOk, OnOk, IsErr, IsErrOf}
 use Rattle.std.specs.List.{All}
 use Rattle.graph_model.specs.declared.edge.Edge.{Edge}
 use Rattle.graph_model.specs.declared.job.Job.{Job}
@@ -14,7 +14,7 @@ use Rattle.phase_model.specs.JobTerms.{terms_of}
 use Rattle.phase_model.specs.Taken.{claims, admissions}
 use Rattle.store_reader.specs.declared.store.Part.{Part}
 use Rattle.round_steps.specs.Epochs.{IsWhole, WholeButLast, GoesThrough}
-use Rattle.round_steps.specs.Going.{IsStore, SomeRose, IsOpenEverywhere}
+use Rattle.round_steps.specs.Going.{IsStore, SomeRose, NoDeviceRose, IsOpenEverywhere}
 use Rattle.round_steps.specs.Standing.{HaveEdges, HasEdges}
 use Rattle.round_steps.specs.Damage.{IsDamage}
 use Rattle.round_loop.specs.declared.run.Start.{Start}
@@ -57,6 +57,7 @@ module _ {D M : Type 0} (state : D → DiskState) (faults : M → ℕ) (rules : 
     pub keeps : Keeps state old.store new.store
     pub meters : MetersGoOn faults old.meters new.meters
     pub rose : IsErrOf result DiskFault → SomeRose state faults old.store new.store old.meters new.meters
+    pub calm : OnOk result (NoDeviceRose state old.store new.store)
     pub beats : (old.beat ≤ new.beat) × (new.beat ≤ old.beat + 1000002)
     -- the seat went through epochs of the job
     pub epochs : List Epoch

@@ -14,7 +14,6 @@ use Rattle.store_model.specs.Slots.{slot_of}
 use Rattle.store_reader.specs.Reading.{own_in}
 use Rattle.store_reader.specs.declared.store.Outcome.{Outcome}
 use Rattle.store_reader.specs.declared.store.Outcome.TheVariants.{Done, DiskFault, Damaged, Memory}
-use Rattle.update_lanes.specs.Lanes as lanes
 use Rattle.checkpoint.specs.SlotStates.{SameOther}
 use Rattle.apply_round.specs.Crew.{OneRose, EndsByCauses}
 use Rattle.apply_round.specs.Made.{AreMerged, made}

@@ -5,7 +5,7 @@ use Rattle.ports.specs.Disk.{DiskState, IsSettled, InEveryImage}
 use Rattle.ports.specs.Faults.{Rose}
 use Rattle.ports.specs.Stops.{Leaves}
 use Rattle.ports.specs.Told.{AsTold}
-use Rattle.ports.specs.Devices.{OneRose}
+use Rattle.ports.specs.Devices.{OneRose, NoneRose, NoMeterRose}
 use Rattle.partitioner.specs.declared.split.Split.{Split}
 use Rattle.store_model.specs.Slots.{device_size, slot_of}
 use Rattle.store_reader.specs.Reading.{own_in}
@@ -13,7 +13,7 @@ use Rattle.store_reader.specs.declared.store.Store.{Store}
 use Rattle.update_lanes.specs.Lanes.{GoOn}
 use Rattle.checkpoint.specs.SlotStates.{SameOther, IsOpenWith}
 use Rattle.checkpoint.specs.Storing.{KeepsOther}
-use Rattle.scatter_epoch.specs.Scattering.{RowsGoOn}
+use Rattle.scatter_epoch.specs.Scattering.{RowsGoOn, NoRowRose}
 
 -- that of one of them rose
 abbrev pub MeterRose : {M : Type 0} → (M → ℕ) → (old new : List M) → Type 0
@@ -72,3 +72,13 @@ module _ {D M : Type 0} (state : D → DiskState) where
   abbrev pub SomeRose : (faults : M → ℕ) → (old new : Store D M) → (meters meters' : List M) → Type 0
   SomeRose faults old new meters meters' =
       MeterRose faults meters meters' ⊎ (OneRose state old.values.items new.values.items ⊎ (RowRose state old.lanes.items new.lanes.items ⊎ OneRose state old.spills.items new.spills.items))
+
+  -- that of no device rose: each stands as it was
+  pub record NoDeviceRose (old new : Store D M) : Type 0 where
+    pub values : NoneRose state old.values.items new.values.items
+    pub lanes : NoRowRose state old.lanes.items new.lanes.items
+    pub spills : NoneRose state old.spills.items new.spills.items
+
+  -- nor that of a meter
+  abbrev pub NoCountRose : (faults : M → ℕ) → (old new : Store D M) → (meters meters' : List M) → Type 0
+  NoCountRose faults old new meters meters' = NoMeterRose faults meters meters' × NoDeviceRose old new

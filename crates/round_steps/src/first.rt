@@ -8,7 +8,7 @@ ghost use Rattle.store_reader.specs.Indexed.{lens_of};
 ghost use Rattle.epoch_seats.specs.Between.{IsBetweenEpochs};
 ghost use Rattle.ports.specs.Devices.{MetersGoOn};
 ghost use Rattle.round_steps.specs.Crews.{AreCrews};
-ghost use Rattle.round_steps.specs.Going.{IsStore, KeepsStore, SomeRose};
+ghost use Rattle.round_steps.specs.Going.{IsStore, KeepsStore, SomeRose, NoCountRose};
 ghost use Rattle.round_steps.specs.Standing.{IsSound, HaveEdges, IsBefore};
 ghost use Rattle.round_steps.specs.Damage.{IsEdgeDamage, NamesDamage};
 ghost use Rattle.round_steps.specs.Rounds.{StoresRound, MakesFirst};
@@ -53,6 +53,7 @@ pub fn make_first<R: Threads + Sync, P: VertexProgram, D: Disk, G: Gate + Sync>(
     ensures beat { (beat.old ≤ beat.new) × (beat.new ≤ beat.old + 1) }
     ensures through { result.outcome ≡ Outcome.Done → beat.new ≡ beat.old + 1 }
     ensures cause { result.outcome ≡ Outcome.DiskFault → SomeRose D.state D.M.faults store.old store.new meters.old.items meters.new.items }
+    ensures calm { result.outcome ≡ Outcome.Done → NoCountRose D.state D.M.faults store.old store.new meters.old.items meters.new.items }
     ensures sound { (records : ℕ → ℕ → List Edge) → HaveEdges D.state run.now.job.now run.now.split.now run.now.index.now store.old.graphs.items records → IsSound result.outcome }
     ensures damaged { NamesDamage (IsEdgeDamage D.state run.now.job.now run.now.split.now run.now.index.now store.old.graphs.items) result.outcome }
     ensures epochs { MakesFirst (P.rules run.now.program.now).counts run.now.job.now run.now.index.now (result.outcome ≡ Outcome.Done) seat.old.view seat.new.view result.claims result.admitted }

@@ -9,7 +9,7 @@ ghost use Rattle.epoch_seats.specs.Between.{IsBetweenEpochs};
 ghost use Rattle.ports.specs.Devices.{MetersGoOn};
 ghost use Rattle.scatter_epoch.specs.Sent.{RowsTell};
 ghost use Rattle.round_steps.specs.Crews.{AreCrews};
-ghost use Rattle.round_steps.specs.Going.{IsStore, KeepsStore, SomeRose};
+ghost use Rattle.round_steps.specs.Going.{IsStore, KeepsStore, SomeRose, NoCountRose};
 ghost use Rattle.round_steps.specs.Standing.{IsSound, HaveEdges, IsBefore};
 ghost use Rattle.round_steps.specs.Damage.{IsDamage, NamesDamage};
 ghost use Rattle.round_steps.specs.Rounds.{StoresRound, MakesEpochs};
@@ -61,6 +61,7 @@ pub fn make_round<R: Threads + Sync, P: VertexProgram, D: Disk, G: Gate + Sync>(
     ensures beat { (beat.old ≤ beat.new) × (beat.new ≤ beat.old + 1) }
     ensures through { result.outcome ≡ Outcome.Done → beat.new ≡ beat.old + 1 }
     ensures cause { result.outcome ≡ Outcome.DiskFault → SomeRose D.state D.M.faults store.old store.new meters.old.items meters.new.items }
+    ensures calm { result.outcome ≡ Outcome.Done → NoCountRose D.state D.M.faults store.old store.new meters.old.items meters.new.items }
     ensures sound { (records : ℕ → ℕ → List Edge) → HaveEdges D.state run.now.job.now run.now.split.now run.now.index.now store.old.graphs.items records → RowsTell D.state store.old.lanes.items → IsSound result.outcome }
     ensures damaged { NamesDamage (IsDamage D.state run.now.job.now run.now.split.now run.now.index.now store.old.graphs.items store.new.lanes.items) result.outcome }
     ensures epochs { MakesEpochs D.state (P.rules run.now.program.now) run.now.job.now run.now.split.now run.now.index.now round changed_only epoch store.old (result.outcome ≡ Outcome.Done) seat.old.view seat.new.view result.claims result.admitted }

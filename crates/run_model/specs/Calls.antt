@@ -1,11 +1,11 @@
 -- What can be seen of a call on a store, and what it asks of the devices that it is handed.
 use Rattle.std.specs.Prelude.{◌≡◌, ◌⊎◌, ℕ, ◌+◌, ◌≤◌, List, length, Option, Some}
 use Rattle.ports.specs.Disk.{DiskState}
-use Rattle.ports.specs.Devices.{OneRose, MetersGoOn}
+use Rattle.ports.specs.Devices.{OneRose, NoneRose, MetersGoOn}
 use Rattle.store_checks.specs.Causes.{Tell}
 use Rattle.store_reader.specs.declared.store.Store.{Store}
 use Rattle.epoch_seats.specs.Between.{IsBetweenEpochs}
-use Rattle.round_steps.specs.Going.{AreDevices, AreRows, SomeRose}
+use Rattle.round_steps.specs.Going.{AreDevices, AreRows, SomeRose, NoCountRose}
 use Rattle.round_loop.specs.Keeping.{AreLater, AreLaterRows, IsTold, Moment}
 
 -- The bytes that the source has left and that `out` has got, where they tell them, their counts of faults, and all that
@@ -57,6 +57,17 @@ module _ {D M : Type 0} (state : D → DiskState) where
   abbrev pub AnyRose : (faults : M → ℕ) → (old new : Moment D M) → Type 0
   AnyRose faults old new =
       OneRose state old.store.graphs.items new.store.graphs.items ⊎ SomeRose state faults old.store new.store old.meters new.meters
+
+  -- and of none: each stands as it was
+  abbrev pub AreStill : (faults : M → ℕ) → (old new : Moment D M) → Type 0
+  AreStill faults old new =
+      NoneRose state old.store.graphs.items new.store.graphs.items × NoCountRose state faults old.store new.store old.meters new.meters
+
+  -- **No call failed**, of the source, of the sink, or of a device: so none was made again, and none was passed over
+  pub record NoneFailed (faults : M → ℕ) (call : Call D M) : Type 0 where
+    pub reads : call.read_faults_after ≡ call.read_faults
+    pub writes : call.write_faults_after ≡ call.write_faults
+    pub devices : AreStill faults call.before call.after
 
   -- **All is in its place again** for a further call, and the beat went on by so much at most
   pub record IsBack (faults : M → ℕ) (engines most : ℕ) (old new : Moment D M) : Type 0 where

@@ -7,14 +7,13 @@ use Rattle.std.proofs.lemmas.List.{get_or-map, length-map}
 use Rattle.graph_model.specs.Programs.{Rules}
 use Rattle.ports.specs.Disk.{DiskState}
 use Rattle.ports.specs.Faults.{Rose}
-use Rattle.ports.specs.Devices.{OneRose, MetersGoOn}
+use Rattle.ports.specs.Devices.{OneRose, NoneRose, NoMeterRose, MetersGoOn}
 use Rattle.chunk_object.specs.History.{most_chunks}
 use Rattle.chunk_object.specs.Epochs.{Terms, list_of}
 use Rattle.chunk_object.specs.Duty.{IsDutiful}
 use Rattle.chunk_cursor.specs.declared.view.View.{View}
 use Rattle.chunk_cursor.specs.Hold.{Hold}
 use Rattle.phase_model.specs.JobTerms.{terms_of}
-use Rattle.phase_model.specs.Taken.{claims}
 use Rattle.phase_model.specs.declared.placed.Placed.{Placed}
 use Rattle.worker_duty.specs.Views.{calls_of, MayWork}
 use Rattle.store_reader.specs.declared.store.Outcome.{Outcome}
@@ -35,10 +34,10 @@ use Rattle.epoch_seats.specs.Seats.{AreNewSeats, AreSeats, epoch_with}
 use Rattle.epoch_seats.specs.Made.{HasMadeEpoch}
 use Rattle.epoch_seats.proofs.Worked as seated
 use Rattle.epoch_seats.proofs.Made.{list_is}
-use Rattle.list_moves.proofs.Desks.{some_of, at_desk, same_len, listed}
+use Rattle.list_moves.proofs.Desks.{some_of, at_desk, same_len, listed, same_by}
 use Rattle.scatter_epoch.specs.Desks.{IsReady, HasWorkedAt}
 use Rattle.scatter_epoch.specs.Dealing.{seat_at, meter_at, lanes_at, places_on, room_at, number_at, outcome_at, claims_at, admitted_at, AreDealt}
-use Rattle.scatter_epoch.specs.Scattering.{AreRows, RowsGoOn, SomeRose, RoseOfOne, HasScatteredAs, HaveScattered}
+use Rattle.scatter_epoch.specs.Scattering.{AreRows, RowsGoOn, NoRowRose, SomeRose, RoseOfOne, HasScatteredAs, HaveScattered}
 use Rattle.scatter_epoch.specs.Sent.{HaveSent}
 use Rattle.scatter_epoch.specs.declared.crew.Scattered.{Scattered}
 
@@ -135,6 +134,15 @@ module _ {P D G M : Type 0} (rules : P → Rules) (state : D → DiskState) (fau
               (λ written. inr (subst (λ (r : Vec D Global). OneRose state r.items (get_or rows' w row).items) (sym row_was) (subst (λ (r : Vec D Global). OneRose state (lanes_at (get_or desks w desk)).items r.items) (sym row_is) written)))
               ((worked w desk within).cause.rose fault)
 
+          -- where its worker is done, none of its counts rose
+          read_calm : outcome_at (get_or done w desk) ≡ Done → faults (get_or meters' w m) ≡ faults (get_or meters w m)
+          read_calm through = ap faults meter_is ∙ (((worked w desk within).cause.calm through).0 ∙ sym (ap faults meter_was))
+
+          lanes_calm : outcome_at (get_or done w desk) ≡ Done → NoneRose state (get_or rows w row).items (get_or rows' w row).items
+          lanes_calm through =
+              subst (λ (r : Vec D Global). NoneRose state r.items (get_or rows' w row).items) (sym row_was)
+              (subst (λ (r : Vec D Global). NoneRose state (lanes_at (get_or desks w desk)).items r.items) (sym row_is) ((worked w desk within).cause.calm through).1)
+
           pub scattered_as : (o : Outcome) → HasScatteredAs rules state faults c (get_or meters w m) (get_or meters' w m) (get_or rows w row) (get_or rows' w row) w (list_of (epoch_with the_lens seats') w) (get_or (map outcome_at done) w o)
           scattered_as o =
               let at = worked w desk within in
@@ -179,6 +187,19 @@ module _ {P D G M : Type 0} (rules : P → Rules) (state : D → DiskState) (fau
             lanes_later w inside (meter_at (some_of desks w here)) row;
       }
 
+      done_at : lowest_outcome all_outcomes ≡ Done → (w : ℕ) (d : ScatterDesk D M) → w < length done → outcome_at (get_or done w d) ≡ Done
+      done_at through w d below = sym (get_or-map outcome_at done w d Done below) ∙ all_done all_outcomes through w Done (omega (arith, length-map done outcome_at))
+
+      pub none_rose : lowest_outcome all_outcomes ≡ Done → NoMeterRose faults meters meters' × NoRowRose state rows rows'
+      none_rose through = (
+        same_by faults meters meters' counts_go_on.many (λ w m below.
+            let inside : w < the_terms.engines = omega (arith, same_len meter_at desks meters dealt.meters_are, all_desks) in
+            read_calm w inside m (lanes_at (desk w inside)) (done_at through w (desk w inside) (omega (arith, all, all_desks)))),
+        same_by (λ (row : Vec D Global). map (λ (x : D). (state x).faults) row.items) rows rows' rows_go_on.many (λ w row below.
+            let inside : w < the_terms.engines = omega (arith, same_len lanes_at desks rows dealt.lanes_are, all_desks) in
+            lanes_calm w inside (meter_at (desk w inside)) row (done_at through w (desk w inside) (omega (arith, all, all_desks)))),
+      )
+
       pub within_places : (lists : List (Vec Placed Global)) → map places_on done ≡ lists → the_terms.engines ≤ 8 → c.serving.split.now.parts ≤ 64 → All (λ (own : Vec Placed Global). All (IsWithin 8 64) own.items) lists
       within_places lists are few few_parts =
           listed places_on (λ (own : Vec Placed Global). All (IsWithin 8 64) own.items) done lists are (λ w d below.
@@ -187,7 +208,7 @@ module _ {P D G M : Type 0} (rules : P → Rules) (state : D → DiskState) (fau
 
       pub each_scattered : lowest_outcome all_outcomes ≡ Done → (w : ℕ) (d : ScatterDesk D M) → w < length done → HasScattered rules state c (get_or done w d)
       each_scattered through w d below =
-          (worked w d (omega (arith, all))).scattered (sym (get_or-map outcome_at done w d Done below) ∙ all_done all_outcomes through w Done (omega (arith, length-map done outcome_at)))
+          (worked w d (omega (arith, all))).scattered (done_at through w d below)
 
       pub wide : AreRows state c.serving.job.now.engines c.beat.now rows → (w : ℕ) (row : Vec D Global) → w < length rows' → length (get_or rows' w row).items ≡ c.serving.job.now.engines
       wide lanes w row below =
@@ -201,6 +222,9 @@ module _ {P D G M : Type 0} (rules : P → Rules) (state : D → DiskState) (fau
 
         pub cause : result.outcome ≡ DiskFault → RoseOfOne state faults the_terms.engines meters meters' rows rows'
         cause fault = ⊎_elim (λ same. rose_of (sym same ∙ fault)) (λ both. let memory = both.1 in let no : ⊥ = cc (memory, fault) in absurd no) ended_as
+
+        pub calm : result.outcome ≡ Done → NoMeterRose faults meters meters' × NoRowRose state rows rows'
+        calm is = none_rose (through is)
 
         pub stopped : result.outcome ≢ Done → MayStopBy rules state c result.outcome
         stopped not = ⊎_elim (λ same. subst (MayStopBy rules state c) (sym same) (stopped_by (λ is. not (same ∙ is)))) (λ both. subst (MayStopBy rules state c) (sym both.1) tt) ended_as

@@ -22,7 +22,6 @@ use Rattle.chunk_model.proofs.Counted.{chunks_within}
 use Rattle.seeded_place.specs.Placing.{on_engine, engine_of, update_stream}
 use Rattle.phase_model.specs.declared.placed.Placed.{Placed}
 use Rattle.phase_model.specs.Shelves.{Shelf, at_cursor, width_of_chunks, places_of}
-use Rattle.phase_model.specs.Shelves as shelves
 use Rattle.phase_model.specs.Lanes.{update_home, update_chunks, update_shelf, all_updates}
 use Rattle.chunk_file.specs.declared.index.Place.{Place}
 use Rattle.update_lanes.specs.Outgoing.{FitsJob}

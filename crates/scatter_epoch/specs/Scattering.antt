@@ -1,5 +1,5 @@
 -- What the workers of a scatter epoch have done.
-use Rattle.std.specs.Prelude.{◌≡◌, ◌≢◌, ◌⊎◌, ℕ, ◌<◌, List, length, slice_index_or, Vec}
+use Rattle.std.specs.Prelude.{◌≡◌, ◌≢◌, ◌⊎◌, ℕ, ◌<◌, List, length, map, slice_index_or, Vec}
 use Rattle.std.specs.Global.{Global}
 use Rattle.graph_model.specs.Programs.{Rules}
 use Rattle.ports.specs.Disk.{DiskState}
@@ -33,6 +33,10 @@ module _ {D : Type 0} (state : D → DiskState) where
   pub record RowsGoOn (number : ℕ) (old new : List (Vec D Global)) : Type 0 where
     pub many : length new ≡ length old
     pub each : (w : ℕ) (row : Vec D Global) → w < length old → GoOn state number (slice_index_or old w row).items (slice_index_or new w row).items
+
+  -- and the count of none of their lanes rose
+  abbrev pub NoRowRose : (olds news : List (Vec D Global)) → Type 0
+  NoRowRose olds news = map (λ (row : Vec D Global). map (λ (x : D). (state x).faults) row.items) news ≡ map (λ (row : Vec D Global). map (λ (x : D). (state x).faults) row.items) olds
 
 module _ {D M : Type 0} (state : D → DiskState) (faults : M → ℕ) where
   -- the count of a worker's meter or of one of its lanes rose

@@ -1,22 +1,24 @@
 -- Lanes that are emptied, one after another.
-use Rattle.std.proofs.Common.{◌≡◌, ℕ, ◌+◌, ◌<◌, ◌≤◌, Option, Some, None, List, [], length, get_or, set, sym, ◌∙◌, ap, subst, arith, length-set}
+use Rattle.std.proofs.Common.{◌≡◌, ℕ, ◌+◌, ◌<◌, ◌≤◌, Option, Some, None, List, [], length, get_or, set, refl, sym, ◌∙◌, ap, subst, arith, length-set}
 use Rattle.std.specs.Prelude.{IfSome, take, Result, Ok}
 use Rattle.std.proofs.lemmas.List.{get_or_default}
 use Rattle.ports.specs.Bytes.{CutShort}
+use Rattle.ports.specs.Devices.{NoneRose}
 use Rattle.ports.specs.Disk.{DiskState, Cuts}
 use Rattle.ports.specs.Told.{AsTold}
 use Rattle.ports.proofs.Told.{told_on}
 use Rattle.update_lanes.specs.Lanes.{HasChunks, GoOn}
-use Rattle.update_lanes.proofs.GoingOn.{goes_on, stays}
+use Rattle.update_lanes.proofs.GoingOn.{goes_on, stays, none_rose}
 use Rattle.graph_model.proofs.ListLemmas.{at_set}
 
 -- the lanes below q are empty
 pub record AreEmptied {X : Type 0} (state : X → DiskState) (number q : ℕ) (old new : List X) : Type 0 where
   pub go_on : GoOn state number old new
+  pub calm : NoneRose state old new
   pub empty : (e : ℕ) (d : X) → e < length new → e < q → HasChunks [] (state (get_or new e d))
 
 pub emptied_none : {X : Type 0} (state : X → DiskState) (number : ℕ) (lanes : List X) → AreEmptied state number 0 lanes lanes
-emptied_none state number lanes = record { go_on = stays state number lanes; empty = λ e d below before. absurd (omega (arith, before)) }
+emptied_none state number lanes = record { go_on = stays state number lanes; calm = refl; empty = λ e d below before. absurd (omega (arith, before)) }
 
 -- a device that was cut to nothing has no chunk
 cut_to_none : (old new : Option (List ℕ)) → AsTold (λ before now. now ≡ take 0 before) old new → IfSome new (λ told. told ≡ [])
@@ -45,6 +47,7 @@ module _ {X : Type 0} (state : X → DiskState) (number q : ℕ) (old mid : List
       let cuts = subst (Cuts number 0 (state given) (state new)) ok any in
       record {
         go_on = cut_goes_on r is.go_on any;
+        calm = none_rose state mid q given new (sym (there new)) cuts.cause.calm ∙ is.calm;
         empty = λ e d below before. at_set (λ k y. HasChunks [] (state y)) mid q e new d within
             (λ same. record { size_is = cuts.cut; bytes_are = cut_to_none _ _ cuts.done })
             (λ other. is.empty e d (omega (arith, length-set mid q new, below)) (omega (arith, before, other)));

@@ -13,7 +13,7 @@ use Rattle.graph_model.specs.Programs.{Rules}
 use Rattle.graph_model.specs.Partitions.{first_vertex}
 use Rattle.graph_model.specs.Rounds.{value_at, differs}
 use Rattle.ports.specs.Disk.{DiskState}
-use Rattle.ports.specs.Devices.{OneRose}
+use Rattle.ports.specs.Devices.{OneRose, NoneRose}
 use Rattle.partitioner.specs.declared.split.Split.{Split}
 use Rattle.partitioner.specs.Splits.{IsSplit}
 use Rattle.partitioner.proofs.Ranges.{in_partition}
@@ -115,6 +115,10 @@ module _ {X : Type 0} (state : X → DiskState) (number : ℕ) (old new : Outgoi
 pub cause_is : {X T : Type 0} (state : X → DiskState) (r : Result T LaneFault) (lanes lanes' written written' : List X) → lanes ≡ lanes' → written ≡ written' → IfErr r (λ fault. fault ≡ DiskFault → OneRose state lanes written) → IfErr r (λ fault. fault ≡ DiskFault → OneRose state lanes' written')
 cause_is state r lanes lanes' written written' a b cause =
     subst (λ l. IfErr r (λ fault. fault ≡ DiskFault → OneRose state l written')) a (subst (λ w. IfErr r (λ fault. fault ≡ DiskFault → OneRose state lanes w)) b cause)
+
+pub calm_is : {X T : Type 0} (state : X → DiskState) (r : Result T LaneFault) (lanes lanes' written written' : List X) → lanes ≡ lanes' → written ≡ written' → OnOk r (NoneRose state lanes written) → OnOk r (NoneRose state lanes' written')
+calm_is state r lanes lanes' written written' a b calm =
+    subst (λ l. OnOk r (NoneRose state l written')) a (subst (λ w. OnOk r (NoneRose state lanes w)) b calm)
 
 pub edges_in : (split : Split) (format most p first end len vertices count : ℕ) (es items : List Edge) (values : List Value) → IsSplit split → AreChunkIn (edge_layout format) split most p (take count items) → es ≡ items → first ≡ first_vertex split.vertices split.parts p → end ≡ first_vertex split.vertices split.parts (p + 1) → length values ≡ len → len_in split p ≤ len → vertices ≡ split.vertices
     → All (IsFrom first (length (take (end - first) values)) vertices) (take count es)

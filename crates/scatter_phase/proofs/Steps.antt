@@ -10,7 +10,7 @@ use Rattle.graph_model.specs.Programs.{Rules}
 use Rattle.ports.specs.Disk.{DiskState}
 use Rattle.ports.specs.Faults.{Rose}
 use Rattle.ports.proofs.Rising.{count_rose_before, count_rose_after}
-use Rattle.ports.specs.Devices.{OneRose}
+use Rattle.ports.specs.Devices.{OneRose, NoneRose}
 use Rattle.partitioner.specs.declared.split.Split.{Split}
 use Rattle.partitioner.specs.Splits.{IsSplitOf}
 use Rattle.chunk_object.specs.declared.call.Call.{Call}
@@ -77,6 +77,7 @@ goes_on_then state faults number a b d x y = record {
       (λ middle. ⊎_elim (λ first. inl first) (λ rose. inr (⊎_elim (λ read. inl (count_rose_after (faults a.meter) (faults b.meter) (faults d.meter) read y.reads)) (λ lane. inr (rose_before state number a.lanes.items b.lanes.items d.lanes.items x.lanes.many lane y.lanes)) rose)) (x.caused middle))
       (λ rose. inr (⊎_elim (λ read. inl (count_rose_before (faults a.meter) (faults b.meter) (faults d.meter) x.reads read)) (λ lane. inr (rose_since state number a.lanes.items b.lanes.items d.lanes.items x.lanes lane)) rose))
       (y.caused is);
+  calm = λ is. let later = y.calm is in let first = x.calm later.0 in (first.0, later.1 ∙ first.1, later.2 ∙ first.2);
 }
 
 module _ {P D G M : Type 0} (rules : P → Rules) (state : D → DiskState) (c : ScatterContext P D G M) where
@@ -191,13 +192,14 @@ nothing_loaded p is = cc
 pub chunks_of : (old new : View) (calls : List Call) → old.story ≡ [] → new ≡ with_calls old calls → taken_by_seat new ≡ taken calls
 chunks_of old new calls none grown = ap taken_by_seat grown ∙ (taken-more old calls ∙ ap (λ xs. xs ++ taken calls) (nothing_taken old none))
 
--- why a disk fault was answered, where before the duty the lanes alone were touched
-pub cause_of : {D M : Type 0} (state : D → DiskState) (faults : M → ℕ) (number : ℕ) (a b d : ScatterDesk D M) → b.meter ≡ a.meter → GoOn state number a.lanes.items b.lanes.items → b.outcome ≡ Done → GoesOn state faults number b d → HasFaultCause state faults a d
-cause_of state faults number a b d meter lanes done goes = record {
+-- why a disk fault was answered, and that Done is calm, where before the duty the lanes alone were touched
+pub cause_of : {D M : Type 0} (state : D → DiskState) (faults : M → ℕ) (number : ℕ) (a b d : ScatterDesk D M) → b.meter ≡ a.meter → GoOn state number a.lanes.items b.lanes.items → NoneRose state a.lanes.items b.lanes.items → b.outcome ≡ Done → GoesOn state faults number b d → HasFaultCause state faults a d
+cause_of state faults number a b d meter lanes none done goes = record {
   reads = subst (λ m. faults m ≤ faults d.meter) meter goes.reads;
   rose = λ is. ⊎_elim (λ early. absurd (not_done (sym done ∙ early)))
       (λ rose. ⊎_elim (λ read. inl (subst (λ m. Rose (faults m) (faults d.meter)) meter read)) (λ lane. inr (rose_since state number a.lanes.items b.lanes.items d.lanes.items lanes lane)) rose)
       (goes.caused is);
+  calm = λ is. let later = goes.calm is in (later.1 ∙ ap faults meter, later.2 ∙ none);
 }
   where
     not_done : Done ≡ DiskFault → ⊥
@@ -212,6 +214,7 @@ noted state faults number old mid new worker room meter lanes outcome goes = rec
   lanes = subst (λ l. GoOn state number old.lanes.items l.items) (sym lanes) goes.lanes;
   caused = λ is. subst (λ m. (old.outcome ≡ DiskFault) ⊎ (Rose (faults old.meter) (faults m) ⊎ OneRose state old.lanes.items new.lanes.items)) (sym meter)
       (subst (λ l. (old.outcome ≡ DiskFault) ⊎ (Rose (faults old.meter) (faults mid.meter) ⊎ OneRose state old.lanes.items l.items)) (sym lanes) (goes.caused (sym outcome ∙ is)));
+  calm = λ is. let was = goes.calm (sym outcome ∙ is) in (was.0, ap faults meter ∙ was.1, subst (λ l. NoneRose state old.lanes.items l.items) (sym lanes) was.2);
 }
 
 -- the chunk that was taken is one of those of its cursor

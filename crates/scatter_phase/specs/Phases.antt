@@ -8,7 +8,7 @@ use Rattle.graph_model.specs.declared.job.Job.{Job}
 use Rattle.graph_model.specs.Programs.{Rules}
 use Rattle.ports.specs.Disk.{DiskState}
 use Rattle.ports.specs.Faults.{Rose}
-use Rattle.ports.specs.Devices.{OneRose}
+use Rattle.ports.specs.Devices.{OneRose, NoneRose}
 use Rattle.partitioner.specs.declared.split.Split.{Split}
 use Rattle.chunk_model.specs.Layout.{edge_layout}
 use Rattle.phase_model.specs.declared.placed.Placed.{Placed}
@@ -30,13 +30,14 @@ use Rattle.scatter_phase.specs.Rooms.{IsRoom}
 use Rattle.scatter_phase.specs.Values.{values_in, HoldValues, HoldBefore}
 
 module _ {D M : Type 0} (state : D → DiskState) (faults : M → ℕ) (number : ℕ) where
-  -- how a desk goes on under a beat of this number: its worker and rooms stay, counts of faults never fall, and a disk fault is answered only where one rose
+  -- how a desk goes on under a beat of this number: its worker and rooms stay, counts of faults never fall, a disk fault is answered only where one rose, and Done only where it was and none rose
   pub record GoesOn (old new : ScatterDesk D M) : Type 0 where
     pub worker : new.worker ≡ old.worker
     pub room : (job : Job) → IsRoom job old.room → IsRoom job new.room
     pub reads : faults old.meter ≤ faults new.meter
     pub lanes : GoOn state number old.lanes.items new.lanes.items
     pub caused : new.outcome ≡ DiskFault → (old.outcome ≡ DiskFault) ⊎ (Rose (faults old.meter) (faults new.meter) ⊎ OneRose state old.lanes.items new.lanes.items)
+    pub calm : new.outcome ≡ Done → (old.outcome ≡ Done) × (faults new.meter ≡ faults old.meter) × NoneRose state old.lanes.items new.lanes.items
 
 module _ {X : Type 0} (state : X → DiskState) (split : Split) (devices : List X) where
   -- the first of these values are those of the partition, whatever values of all vertices stand in the slot

@@ -7,13 +7,13 @@ use Rattle.graph_model.specs.declared.value.Update.{Update}
 use Rattle.graph_model.specs.Programs.{Rules}
 use Rattle.ports.specs.Disk.{DiskState}
 use Rattle.ports.specs.Faults.{Rose}
-use Rattle.ports.specs.Devices.{OneRose}
+use Rattle.ports.specs.Devices.{OneRose, NoneRose}
 use Rattle.chunk_model.specs.Layout.{edge_layout}
 use Rattle.phase_model.specs.Lanes.{update_shelf}
 use Rattle.phase_model.specs.Sends.{sent_by, sending_of}
 use Rattle.phase_model.specs.Taken.{records_taken}
 use Rattle.worker_duty.specs.Views.{calls_of, taken_by_seat}
-use Rattle.store_reader.specs.declared.store.Outcome.TheVariants.{DiskFault}
+use Rattle.store_reader.specs.declared.store.Outcome.TheVariants.{Done, DiskFault}
 use Rattle.store_reader.specs.Indexed.{HasRecords}
 use Rattle.update_lanes.specs.Lanes.{AreWritten, places_in}
 use Rattle.update_lanes.specs.Outgoing.{FitsJob}
@@ -35,10 +35,11 @@ module _ {P D G M : Type 0} (rules : P → Rules) (state : D → DiskState) wher
     pub found : AreFound rules state c (taken_by_seat desk.seat.view)
 
 module _ {D M : Type 0} (state : D → DiskState) (faults : M → ℕ) where
-  -- the count of the meter never falls, and a disk fault is answered only where that count or a lane's rose
+  -- the count of the meter never falls, a disk fault is answered only where that count or a lane's rose, and none rises where the outcome is Done
   pub record HasFaultCause (old new : ScatterDesk D M) : Type 0 where
     pub reads : faults old.meter ≤ faults new.meter
     pub rose : new.outcome ≡ DiskFault → Rose (faults old.meter) (faults new.meter) ⊎ OneRose state old.lanes.items new.lanes.items
+    pub calm : new.outcome ≡ Done → (faults new.meter ≡ faults old.meter) × NoneRose state old.lanes.items new.lanes.items
 
 -- in each partition at most one place more is noted than chunks were taken
 abbrev pub ArePlacesFew : {D M : Type 0} → ScatterDesk D M → Type 0

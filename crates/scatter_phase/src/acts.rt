@@ -8,7 +8,7 @@ ghost use Rattle.chunk_model.specs.ChunkBytes.{chunk_width};
 ghost use Rattle.chunk_model.specs.Layout.{edge_layout};
 ghost use Rattle.partitioner.specs.Splits.{IsSplit};
 ghost use Rattle.chunk_file.specs.Places.{places_of};
-ghost use Rattle.store_reader.specs.Serving.{told_at, place_at, AddsClaim, HasServed, HasDevices, ReadsAt, RefusesAt};
+ghost use Rattle.store_reader.specs.Serving.{told_at, place_at, AddsClaim, HasServed, OnServed, HasDevices, ReadsAt, RefusesAt};
 ghost use Rattle.store_reader.specs.Indexed.{IsServing};
 ghost use Rattle.scatter_phase.specs.Rooms.{AreValueDevices, AreSlots};
 ghost use Rattle.scatter_phase.specs.Acting.{MayServeAt, HasServedAt, MayProposeAt, HasProposedAt, MayLeaveAt, HasLeftAt};
@@ -86,6 +86,7 @@ fn read_edges<D: Disk>(
     ensures rooms { (length bytes.new.items ≡ length bytes.old.items) × (length into.new.items ≡ length into.old.items) }
     ensures table { seat.new.table ≡ seat.old.table }
     ensures later { D.M.faults meter.old ≤ D.M.faults meter.new }
+    ensures calm { OnServed result (D.M.faults meter.new ≡ D.M.faults meter.old) }
     ensures served { HasServed
         (AddsClaim seat.old.view seat.new.view (cursor_of engine partition))
         (λ t count. ReadsAt (edge_layout serving.now.job.now.format) serving.now.split.now partition (place_at serving.now.index.now engine partition t)

@@ -1,7 +1,7 @@
 //! Lanes that are emptied.
 ghost use Rattle.std.specs.Prelude.{ℕ, ◌<◌, [], length, slice_index_or, OnOk, OnErr};
 ghost use Rattle.update_lanes.specs.Lanes.{HasChunks, GoOn};
-ghost use Rattle.ports.specs.Devices.{OneRose};
+ghost use Rattle.ports.specs.Devices.{OneRose, NoneRose};
 ghost use Rattle.scatter_phase.specs.Rooms.{AreLanes};
 
 use ports::{Beat, Disk, Failed};
@@ -12,6 +12,7 @@ pub(crate) fn empty_lanes<D: Disk>(lanes: &mut Vec<D>, beat: &Beat) -> Result<()
     ensures go_on { GoOn D.state beat.now lanes.old.items lanes.new.items }
     ensures empty { OnOk result ((e : ℕ) (d : D) → e < length lanes.new.items → HasChunks [] (D.state (slice_index_or lanes.new.items e d))) }
     ensures cause { OnErr result (OneRose D.state lanes.old.items lanes.new.items) }
+    ensures calm { OnOk result (NoneRose D.state lanes.old.items lanes.new.items) }
 {
     'lanes: for engine in 0..lanes.len() {
         lanes[engine].cut(beat, 0)?;

@@ -4,9 +4,9 @@
 //! To the room above it promises that the worker's list meets the duty where the outcome is `Done`, and is otherwise a
 //! front of such a list; that its lanes and places are then exactly the update chunks of what the chunks in that list
 //! send, in order, and no chunk in it was passed over; that places are few and within the split, whatever the answer;
-//! that a disk fault comes only where a count of faults rose; and that damage is that of a chunk of the index, and never
-//! comes where the devices tell their bytes and have the chunks that the index names. It touches the desk of its worker,
-//! and of what is lent to all workers the cursors alone.
+//! that a disk fault comes only where a count of faults rose, and `Done` only where none did; and that damage is that of a
+//! chunk of the index, and never comes where the devices tell their bytes and have the chunks that the index names. It
+//! touches the desk of its worker, and of what is lent to all workers the cursors alone.
 //!
 //! In the code alone, memory is taken for the growth of the places, lanes are emptied before the first claim, and the
 //! values of a partition are read once, after the first claim there that takes a chunk.

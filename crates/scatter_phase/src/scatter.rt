@@ -5,7 +5,7 @@ ghost use Rattle.phase_model.specs.JobTerms.{terms_of};
 ghost use Rattle.worker_duty.specs.Views.{taken_by_seat, MayWork, HasWorked};
 ghost use Rattle.store_reader.specs.Indexed.{IsServing, lens_of};
 ghost use Rattle.update_lanes.specs.Lanes.{GoOn};
-ghost use Rattle.ports.specs.Devices.{OneRose};
+ghost use Rattle.ports.specs.Devices.{OneRose, NoneRose};
 ghost use Rattle.scatter_phase.specs.Rooms.{IsRoom, AreLanes, AreValueDevices, AreSlots};
 ghost use Rattle.scatter_phase.specs.Phases.{GoesOn, DeskHolds, DeskStops, MayStopBy, AreWithin};
 ghost use Rattle.scatter_phase.specs.Scattered.{HasScattered, HasFaultCause, ArePlacesFew};
@@ -117,6 +117,7 @@ fn begin<P: VertexProgram, D: Disk, G: Gate>(
     ensures lanes { GoOn D.state context.now.beat.now desk.old.lanes.items desk.new.lanes.items }
     ensures holds { OnOk result (DeskHolds P.rules D.state context.now desk.new (taken_by_seat desk.new.seat.view)) }
     ensures cause { OnErr result (OneRose D.state desk.old.lanes.items desk.new.lanes.items) }
+    ensures calm { OnOk result (NoneRose D.state desk.old.lanes.items desk.new.lanes.items) }
 {
     empty_lanes(&mut desk.lanes, context.beat)?;
     let job = context.serving.job;

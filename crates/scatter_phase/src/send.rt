@@ -6,7 +6,7 @@ ghost use Rattle.store_reader.specs.Indexed.{IsServing};
 ghost use Rattle.phase_model.specs.Sends.{sent_by};
 ghost use Rattle.update_lanes.specs.Lanes.{AreReady};
 ghost use Rattle.update_lanes.specs.Outgoing.{NoneFull, SendsOn, StopsOn};
-ghost use Rattle.ports.specs.Devices.{OneRose};
+ghost use Rattle.ports.specs.Devices.{OneRose, NoneRose};
 ghost use Rattle.scatter_phase.specs.Rooms.{IsRoom, AreValueDevices, AreSlots};
 ghost use Rattle.scatter_phase.specs.Phases.{GoesOn, IsOpen, AreMarkedSince};
 ghost use Rattle.scatter_phase.specs.Sending.{HasSentFor, KeepsBuffers, sending_in};
@@ -87,6 +87,7 @@ fn send_chunk<P: VertexProgram, D: Disk, G: Gate>(
         (sent_by (sending_in (P.rules context.now.program.now) context.now.serving.split.now partition context.now.before room.old) (take count room.old.edges.items))) }
     ensures stops { OnErr result (StopsOn D.state context.now.beat.now room.old.outgoing room.new.outgoing lanes.old.items lanes.new.items places.old.items places.new.items count) }
     ensures cause { IfErr result (λ fault. fault ≡ LaneFault.DiskFault → OneRose D.state lanes.old.items lanes.new.items) }
+    ensures calm { OnOk result (NoneRose D.state lanes.old.items lanes.new.items) }
 {
     let (first, end) = context.serving.split.range(partition);
     let len = (end - first) as usize;

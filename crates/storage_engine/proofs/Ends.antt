@@ -10,7 +10,7 @@ use Rattle.graph_model.specs.declared.job.Job.{Job}
 use Rattle.chunk_file.specs.declared.index.Place.{Place}
 use Rattle.ports.specs.Disk.{DiskState, IsDisk, InEveryImage}
 use Rattle.ports.specs.Stops.{LeavesByBeat}
-use Rattle.ports.specs.Devices.{Each, OneRose}
+use Rattle.ports.specs.Devices.{Each, OneRose, NoneRose}
 use Rattle.store_model.specs.Heads.{IsShutGraph}
 use Rattle.store_model.specs.Slots.{IsBlank}
 use Rattle.store_model.specs.Kept.{own_of}
@@ -145,15 +145,16 @@ prepared_first state job text left number read graphs graphs' values values' fau
   shut = λ of_text e d below. shut of_text e d (omega (arith, below, many, steps.many));
   cause = cause;
   last = λ now. absurd (omega (arith, now));
+  calm = tt;
 }
 
 pub prepared_second : {X : Type 0} (state : X → DiskState) (job : Job) (text left : Option (List ℕ)) (number : ℕ) (read : Type 0) (graphs mids graphs' values values' : List X) (es : List Edge) (index : List (List Place)) → ((x : X) → IsDisk (state x))
     → length graphs ≡ job.engines → length values ≡ job.engines → All (λ x. (state x).beat ≤ number) graphs → All (λ x. (state x).beat ≤ number) values
     → Each state (Step IsShutGraph number) graphs mids → Each state (Step Anything number) values values'
     → HasReadAll job text left es → IsFlushed state job es index mids → EachOne state (λ e old new. IsBlankDevice job e new) values values'
-    → Each state (Opens (number + 1)) mids graphs' → EachOne state (λ e old new. Opened old new) mids graphs'
+    → Each state (Opens (number + 1)) mids graphs' → EachOne state (λ e old new. Opened old new) mids graphs' → NoneRose state graphs graphs' × NoneRose state values values'
     → Prepares state job text left number (number + 1) read graphs graphs' values values' (Ok index)
-prepared_second state job text left number read graphs mids graphs' values values' es index laws many many' beats beats' steps steps' read_all flushed blank opens opened =
+prepared_second state job text left number read graphs mids graphs' values values' es index laws many many' beats beats' steps steps' read_all flushed blank opens opened calm =
     let mid_beats = beats_after state IsShutGraph number graphs mids beats steps in
     let new_beats = beats_after state Anything number values values' beats' steps' in
     let made = made_of state job text left es index mids graphs' (steps.many ∙ many) (opens.many ∙ steps.many ∙ many) read_all flushed opened in
@@ -176,6 +177,7 @@ prepared_second state job text left number read graphs mids graphs' values value
       shut = tt;
       cause = tt;
       last = tt;
+      calm = calm;
     }
 
 pub prepared_opening_failed : {X : Type 0} (state : X → DiskState) (job : Job) (text left : Option (List ℕ)) (number : ℕ) (read : Type 0) (graphs mids graphs' values values' : List X) (es : List Edge) (index : List (List Place)) → ((x : X) → IsDisk (state x))
@@ -206,6 +208,7 @@ prepared_opening_failed state job text left number read graphs mids graphs' valu
       shut = λ of_text. absurd of_text;
       cause = inl (one_rose_later state IsShutGraph number graphs mids graphs' steps rose);
       last = λ now. refl;
+      calm = tt;
     }
 
 -- The devices of two vectors that were lent as slices.

@@ -1,10 +1,11 @@
 -- Steps over several devices, one device after another.
 use Rattle.std.proofs.Common.{◌≡◌, ◌∙◌, ℕ, ◌+◌, ◌<◌, ◌≤◌, List, length, get_or, set, refl, sym, subst, arith}
 use Rattle.std.proofs.lemmas.List.{get_or-set_same, get_or-set_other, get_or_default, length-set}
+use Rattle.std.proofs.Math.Seq.{map-set_same}
 use Rattle.ports.specs.Disk.{DiskState, IsDisk, InEveryImage}
 use Rattle.ports.specs.Faults.{Rose}
 use Rattle.ports.proofs.Rising.{count_rose_before, one_rose_before, one_rose_after}
-use Rattle.ports.specs.Devices.{Each, OneRose}
+use Rattle.ports.specs.Devices.{Each, OneRose, NoneRose}
 use Rattle.store_model.specs.Heads.{IsShutGraph}
 use Rattle.graph_model.proofs.ListLemmas.{at_set}
 use Rattle.storage_engine.specs.Steps.{Anything, Step, IsClosedFront, Opens}
@@ -51,24 +52,31 @@ one_rose_later state P number olds mids news first rose = one_rose_before (λ x.
 pub one_rose_earlier : {X : Type 0} (state : X → DiskState) (P : List ℕ → Type 0) (number : ℕ) (olds mids news : List X) → length mids ≡ length olds → OneRose state olds mids → Each state (Step P number) mids news → OneRose state olds news
 one_rose_earlier state P number olds mids news many rose next = one_rose_after (λ x. (state x).faults) olds mids news many rose (λ e d below. (next.each e d (omega (arith, below, many))).faults)
 
--- The devices below a number have had their step, and the others no call.
+-- none rose so far, nor in a call of one of them
+pub none_rose_here : {X : Type 0} (state : X → DiskState) (olds mids : List X) (e : ℕ) (mid new : X) → NoneRose state olds mids → (state new).faults ≡ (state (get_or mids e mid)).faults → NoneRose state olds (set mids e new)
+none_rose_here state olds mids e mid new before same = map-set_same (λ x. (state x).faults) mids e new mid same ∙ before
+
+-- The devices below a number have had their step, and the others no call; no count of faults rose.
 pub record DoneBelow {X : Type 0} (state : X → DiskState) (R : DiskState → DiskState → Type 0) (Q : ℕ → DiskState → DiskState → Type 0) (e : ℕ) (olds mids : List X) : Type 0 where
   pub steps : Each state R olds mids
   pub done : (k : ℕ) (d : X) → k < e → Q k (state (get_or olds k d)) (state (get_or mids k d))
   pub rest : (k : ℕ) (d : X) → e ≤ k → get_or mids k d ≡ get_or olds k d
+  pub calm : NoneRose state olds mids
 
 pub none_done : {X : Type 0} (state : X → DiskState) (R : DiskState → DiskState → Type 0) (Q : ℕ → DiskState → DiskState → Type 0) (disks : List X) → Each state R disks disks → DoneBelow state R Q 0 disks disks
-none_done state R Q disks same = record { steps = same; done = λ k d below. absurd (omega arith); rest = λ k d from. refl }
+none_done state R Q disks same = record { steps = same; done = λ k d below. absurd (omega arith); rest = λ k d from. refl; calm = refl }
 
 pub one_done : {X : Type 0} (state : X → DiskState) (R : DiskState → DiskState → Type 0) (Q : ℕ → DiskState → DiskState → Type 0) (e : ℕ) (olds mids : List X) (mid new : X) → e < length mids
-    → DoneBelow state R Q e olds mids → Each state R olds (set mids e new) → Q e (state (get_or mids e mid)) (state new) → DoneBelow state R Q (e + 1) olds (set mids e new)
-one_done {X} state R Q e olds mids mid new within below steps now = record {
+    → DoneBelow state R Q e olds mids → Each state R olds (set mids e new) → Q e (state (get_or mids e mid)) (state new)
+    → (state new).faults ≡ (state (get_or mids e mid)).faults → DoneBelow state R Q (e + 1) olds (set mids e new)
+one_done {X} state R Q e olds mids mid new within below steps now same_count = record {
   steps = steps;
   done = λ k d less.
       at_set (λ j x. Q j (state (get_or olds j d)) (state x)) mids e k new d within
       (λ same. subst (λ x. Q e (state x) (state new)) (get_or_default mids e mid d within ∙ below.rest e d (omega arith)) now)
       (λ other. below.done k d (omega arith));
   rest = λ k d from. get_or-set_other mids e k new d (omega arith) ∙ below.rest k d (omega arith);
+  calm = none_rose_here state olds mids e mid new below.calm same_count;
 }
 
 -- a step of a device that had none before

@@ -14,7 +14,7 @@ use Rattle.chunk_file.specs.declared.index.TheConstants.{MOST_PLACES}
 use Rattle.chunk_file.specs.Places.{total_of}
 use Rattle.ports.specs.Disk.{DiskState, InEveryImage}
 use Rattle.ports.specs.Stops.{LeavesByBeat}
-use Rattle.ports.specs.Devices.{OneRose}
+use Rattle.ports.specs.Devices.{OneRose, NoneRose}
 use Rattle.storage_engine.specs.Making.{HasPlaces}
 use Rattle.storage_engine.specs.Steps.{HoldsExactly, IsLater}
 use Rattle.store_model.specs.Heads.{IsShutGraph}
@@ -116,3 +116,5 @@ pub record Prepares {X : Type 0} (state : X → DiskState) (job : Job) (text lef
   -- why it was refused; in the second beat only the opening of the gates fails
   pub cause : IfErr result (HasPrepareCause job text (OneRose state graphs graphs' ⊎ OneRose state values values') read)
   pub last : IfErr result (λ fault. now ≡ number + 1 → fault ≡ DiskFault)
+  -- no count of a device rose where the store was made
+  pub calm : OnOk result (NoneRose state graphs graphs' × NoneRose state values values')

@@ -5,7 +5,7 @@ ghost use Rattle.std.specs.List.{All};
 ghost use Rattle.partitioner.specs.Splits.{IsSplitOf, IsSplit};
 ghost use Rattle.graph_model.specs.Jobs.{IsWellFormedJob};
 ghost use Rattle.store_model.specs.Heads.{IsShutGraph};
-ghost use Rattle.ports.specs.Devices.{Each, OneRose};
+ghost use Rattle.ports.specs.Devices.{Each, OneRose, NoneRose};
 ghost use Rattle.storage_engine.specs.Making.{HasHead, IsBlankDevice};
 ghost use Rattle.storage_engine.specs.Steps.{Anything, Step, EachOne};
 
@@ -38,6 +38,7 @@ pub(crate) fn begin_devices<D: Disk>(
     ensures heads { OnOk result (EachOne D.state (λ e old new. HasHead job.now e new) graphs.old graphs.new) }
     ensures blank { OnOk result (EachOne D.state (λ e old new. IsBlankDevice job.now e new) values.old values.new) }
     ensures rose { OnErr result (OneRose D.state graphs.old graphs.new ⊎ OneRose D.state values.old values.new) }
+    ensures calm { OnOk result (NoneRose D.state graphs.old graphs.new × NoneRose D.state values.old values.new) }
 {
     clear_all(graphs, beat)?;
     clear_all(values, beat)?;

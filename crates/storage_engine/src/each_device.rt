@@ -2,7 +2,7 @@
 ghost use Rattle.std.specs.Prelude.{◌≡◌, ◌+◌, ◌*◌, ◌<◌, ◌≤◌, [], ◌∷◌, length, replicate, OnOk, OnErr};
 ghost use Rattle.std.specs.List.{All};
 ghost use Rattle.ports.specs.Disk.{InEveryImage, IsSettled};
-ghost use Rattle.ports.specs.Devices.{Each, OneRose};
+ghost use Rattle.ports.specs.Devices.{Each, OneRose, NoneRose};
 ghost use Rattle.graph_model.specs.Jobs.{IsWellFormedJob};
 ghost use Rattle.partitioner.specs.Splits.{IsSplit};
 ghost use Rattle.store_model.specs.Heads;
@@ -23,6 +23,7 @@ pub(crate) fn clear_all<D: Disk>(disks: &mut [D], beat: &Beat) -> Result<(), Fai
     ensures steps { Each D.state (Step IsShutGraph beat.now) disks.old disks.new }
     ensures done { OnOk result (EachOne D.state (λ e old new. HoldsExactly [] new) disks.old disks.new) }
     ensures rose { OnErr result (OneRose D.state disks.old disks.new) }
+    ensures calm { OnOk result (NoneRose D.state disks.old disks.new) }
 {
     for e in 0..disks.len() {
         clear(&mut disks[e], beat)?;
@@ -39,6 +40,7 @@ pub(crate) fn write_fronts<D: Disk>(job: &Job, disks: &mut [D], beat: &Beat) -> 
     ensures steps { Each D.state (Step IsShutGraph beat.now) disks.old disks.new }
     ensures done { OnOk result (EachOne D.state (λ e old new. HoldsExactly (front 0 job.now e) new) disks.old disks.new) }
     ensures rose { OnErr result (OneRose D.state disks.old disks.new) }
+    ensures calm { OnOk result (NoneRose D.state disks.old disks.new) }
 {
     for e in 0..disks.len() {
         write_front(&mut disks[e], &front_of(job, e as u32), beat)?;
@@ -53,6 +55,7 @@ pub(crate) fn write_marks<D: Disk>(disks: &mut [D], beat: &Beat) -> Result<(), F
     ensures steps { Each D.state (Step IsClosedFront beat.now) disks.old disks.new }
     ensures done { OnOk result (EachOne D.state (λ e old new. Appended (Heads.MARK ∷ []) old new) disks.old disks.new) }
     ensures rose { OnErr result (OneRose D.state disks.old disks.new) }
+    ensures calm { OnOk result (NoneRose D.state disks.old disks.new) }
 {
     for e in 0..disks.len() {
         write_mark(&mut disks[e], beat)?;
@@ -66,6 +69,7 @@ pub(crate) fn sync_all<D: Disk>(disks: &mut [D], beat: &Beat) -> Result<(), Fail
     ensures steps { Each D.state (Step IsClosedFront beat.now) disks.old disks.new }
     ensures done { OnOk result (EachOne D.state (λ e old new. Synced old new) disks.old disks.new) }
     ensures rose { OnErr result (OneRose D.state disks.old disks.new) }
+    ensures calm { OnOk result (NoneRose D.state disks.old disks.new) }
 {
     for e in 0..disks.len() {
         sync_closed(&mut disks[e], beat)?;
@@ -89,6 +93,7 @@ pub(crate) fn write_all_zeros<D: Disk>(
     ensures steps { Each D.state (Step Anything beat.now) disks.old disks.new }
     ensures done { OnOk result (EachOne D.state (λ e old new. HoldsExactly (replicate (Slots.device_size (own_in split.now e)) 0) new) disks.old disks.new) }
     ensures rose { OnErr result (OneRose D.state disks.old disks.new) }
+    ensures calm { OnOk result (NoneRose D.state disks.old disks.new) }
 {
     for e in 0..disks.len() {
         let size = device_size(split.own(e as u32));
@@ -106,6 +111,7 @@ pub(crate) fn open_all<D: Disk>(disks: &mut [D], beat: &Beat) -> Result<(), Fail
     ensures opens { Each D.state (Opens beat.now) disks.old disks.new }
     ensures done { OnOk result (EachOne D.state (λ e old new. Opened old new) disks.old disks.new) }
     ensures rose { OnErr result (OneRose D.state disks.old disks.new) }
+    ensures calm { OnOk result (NoneRose D.state disks.old disks.new) }
 {
     for e in 0..disks.len() {
         open_gate(&mut disks[e], beat)?;

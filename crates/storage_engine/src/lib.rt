@@ -2,9 +2,10 @@
 //! is read and serves its chunks.
 //!
 //! To the room above it promises that a store which `prepare` makes is exactly that of the job and the text, that a stop
-//! while it is made leaves a graph device that is not open, or whole ones, that each refusal has its cause, and that every
-//! fault has raised its count. It knows the ports, the reader of edge texts, files of chunks, the places of chunks and the
-//! definitions of stores, and touches nothing but the source and the devices that it is handed.
+//! while it is made leaves a graph device that is not open, or whole ones, that each refusal has its cause, that every
+//! fault has raised its count, and that none rose where a store was made. It knows the ports, the reader of edge texts,
+//! files of chunks, the places of chunks and the definitions of stores, and touches nothing but the source and the devices
+//! that it is handed.
 #![tactic(auto)]
 
 mod begin;

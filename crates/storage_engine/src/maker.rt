@@ -8,7 +8,7 @@ ghost use Rattle.chunk_model.specs.Layout.{holds_edge};
 ghost use Rattle.chunk_file.specs.declared.index.TheConstants.{MOST_PLACES};
 ghost use Rattle.chunk_file.specs.Places.{total_of};
 ghost use Rattle.store_model.specs.Graphs.{edge_chunks};
-ghost use Rattle.ports.specs.Devices.{Each, OneRose};
+ghost use Rattle.ports.specs.Devices.{Each, OneRose, NoneRose};
 ghost use Rattle.storage_engine.specs.Making.{HasHead, HasMade, HasMakeCause, IsFlushed, IsMaking, HasRoomFor, chunk_with};
 ghost use Rattle.storage_engine.specs.Steps.{Step, IsClosedFront};
 ghost use Rattle.storage_engine.specs.Waiting.{waiting, no_edges};
@@ -82,6 +82,7 @@ impl Maker {
         ensures making { (before : List Edge) → IsMaking D.state self.old.job before self.old.buffers self.old.placer self.old.index graphs.old
             → OnOk result (IsMaking D.state self.old.job (before ++ edges.now) self.new.buffers self.new.placer self.new.index graphs.new) }
         ensures rose { IfErr result (λ fault. fault ≡ MakeFault.DiskFault → OneRose D.state graphs.old graphs.new) }
+        ensures calm { OnOk result (NoneRose D.state graphs.old graphs.new) }
     {
         for k in 0..edges.len() {
             let edge = edges[k];
@@ -110,6 +111,7 @@ impl Maker {
         ensures making { (edges : List Edge) → IsMaking D.state self.old.job edges self.old.buffers self.old.placer self.old.index graphs.old
             → OnOk result (IsMaking D.state self.old.job (edges ++ edge ∷ []) self.new.buffers self.new.placer self.new.index graphs.new) }
         ensures cause { IfErr result (HasMakeCause (OneRose D.state graphs.old graphs.new)) }
+        ensures calm { OnOk result (NoneRose D.state graphs.old graphs.new) }
     {
         let partition = edge.src / self.span;
         self.buffers.add(partition as usize, edge)?;
@@ -140,6 +142,7 @@ impl Maker {
             → OnOk result (HasMade D.state self.old.job (made ++ chunk_with partition (waiting self.old.buffers partition) ∷ []) self.new.placer self.new.index graphs.new) }
         ensures emptied { OnOk result (self.new.buffers ≡ slice_set self.old.buffers partition no_edges) }
         ensures cause { IfErr result (HasMakeCause (OneRose D.state graphs.old graphs.new)) }
+        ensures calm { OnOk result (NoneRose D.state graphs.old graphs.new) }
     {
         let edges = self.buffers.edges(partition as usize);
         write_chunk(
@@ -169,6 +172,7 @@ impl Maker {
         ensures made { (edges : List Edge) → IsMaking D.state self.job edges self.buffers self.placer self.index graphs.old
             → IfOk result (λ index. IsFlushed D.state self.job edges index graphs.new) }
         ensures rose { IfErr result (λ fault. fault ≡ MakeFault.DiskFault → OneRose D.state graphs.old graphs.new) }
+        ensures calm { OnOk result (NoneRose D.state graphs.old graphs.new) }
     {
         self.write_rest(graphs, beat)?;
         sync_all(graphs, beat)?;
@@ -184,6 +188,7 @@ impl Maker {
         ensures made { (edges : List Edge) → IsMaking D.state self.old.job edges self.old.buffers self.old.placer self.old.index graphs.old
             → OnOk result (HasMade D.state self.old.job (edge_chunks self.old.job edges) self.new.placer self.new.index graphs.new) }
         ensures rose { IfErr result (λ fault. fault ≡ MakeFault.DiskFault → OneRose D.state graphs.old graphs.new) }
+        ensures calm { OnOk result (NoneRose D.state graphs.old graphs.new) }
     {
         let parts = self.buffers.len();
         'parts: for partition in 0..parts {

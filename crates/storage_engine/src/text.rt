@@ -6,7 +6,7 @@ ghost use Rattle.graph_model.specs.EdgeText;
 ghost use Rattle.graph_model.specs.Programs;
 ghost use Rattle.graph_model.specs.Jobs.{IsWellFormedJob};
 ghost use Rattle.ports.specs.Faults.{Rose};
-ghost use Rattle.ports.specs.Devices.{Each, OneRose};
+ghost use Rattle.ports.specs.Devices.{Each, OneRose, NoneRose};
 ghost use Rattle.storage_engine.specs.Making.{AreFew, IsMaking};
 ghost use Rattle.storage_engine.specs.Preparing;
 ghost use Rattle.storage_engine.specs.Preparing.{HasReadAll, HasPrepareCause};
@@ -39,6 +39,7 @@ pub(crate) fn make_chunks<S: Source, D: Disk>(
         × IsMaking D.state maker.old.job edges maker.new.buffers maker.new.placer maker.new.index graphs.new × AreFew maker.old.job edges) }
     ensures source { S.faults source.old ≤ S.faults source.new }
     ensures cause { IfErr result (HasPrepareCause maker.old.job (S.left source.old) (OneRose D.state graphs.old graphs.new) (Rose (S.faults source.old) (S.faults source.new))) }
+    ensures calm { OnOk result ((S.faults source.new ≡ S.faults source.old) × NoneRose D.state graphs.old graphs.new) }
 {
     let job = maker.job;
     let limit = text_limit(job.chunk);

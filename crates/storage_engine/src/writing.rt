@@ -8,7 +8,7 @@ ghost use Rattle.chunk_model.specs.Layout.{edge_width, holds_edge};
 ghost use Rattle.chunk_model.specs.ChunkBytes.{chunk_width};
 ghost use Rattle.chunk_file.specs.declared.index.TheConstants.{MOST_PLACES};
 ghost use Rattle.chunk_file.specs.Places.{total_of};
-ghost use Rattle.ports.specs.Devices.{Each, OneRose};
+ghost use Rattle.ports.specs.Devices.{Each, OneRose, NoneRose};
 ghost use Rattle.storage_engine.specs.Making.{HasMade, HasMakeCause, chunk_with};
 ghost use Rattle.storage_engine.specs.Steps.{Step, IsClosedFront};
 
@@ -44,6 +44,7 @@ pub(crate) fn write_chunk<D: Disk>(
         → OnOk result (HasMade D.state job.now (made ++ chunk_with partition edges.now ∷ []) placer.new index.new graphs.new) }
     ensures room { length bytes.new ≡ length bytes.old }
     ensures cause { IfErr result (HasMakeCause (OneRose D.state graphs.old graphs.new)) }
+    ensures calm { OnOk result (NoneRose D.state graphs.old graphs.new) }
 {
     let engine = placer.next();
     let at = append_chunk(

@@ -15,7 +15,7 @@ use Rattle.round_loop.specs.Keeping.{AreLater, AreLaterRows}
 use Rattle.round_steps.specs.Going.{AreDevices, AreRows, MeterRose}
 use Rattle.endings.specs.declared.ending.Ending.{Ending}
 use Rattle.endings.specs.declared.ending.Ending.TheVariants.{Dropped, DiskFault}
-use Rattle.run_model.specs.Calls.{Call, IsReady, AnyRose, IsBack}
+use Rattle.run_model.specs.Calls.{Call, IsReady, AnyRose, AreStill, NoneFailed, IsBack}
 use Rattle.store_drop.specs.Drops.{AllEmpty, HasDropCause, IsDrop}
 use Rattle.run_model.proofs.Going.{all_early}
 use Rattle.run_model.proofs.Untouched.{prints_none}
@@ -80,9 +80,10 @@ module _ {D M : Type 0} (state : D → DiskState) (faults : M → ℕ) (call : C
     beats = elim beat [ inl same ↦ (omega (arith, same), omega (arith, same)) | inr next ↦ (omega (arith, next), omega (arith, next)) ];
   }
 
-  pub is_drop : (ending : Ending) → HasDropCause state faults call ending → IsDrop state faults call engines ending
-  is_drop ending cause = record {
+  pub is_drop : (ending : Ending) → HasDropCause state faults call ending → (ending ≡ Dropped → NoneFailed state faults call) → IsDrop state faults call engines ending
+  is_drop ending cause calm = record {
     cause = cause;
+    calm = calm;
     printed = prints_none call.out call.out_after unprinted;
     no_writes = no_writes;
     unread = unread;
@@ -92,9 +93,9 @@ module _ {D M : Type 0} (state : D → DiskState) (faults : M → ℕ) (call : C
     stops = λ b images others within stop_graphs stop_values. stops b images others within (omega (arith, some, ready.graphs.all)) stop_graphs stop_values;
   }
 
-  -- **Each device is empty.**
-  pub dropped : AllEmpty state faults call → IsDrop state faults call engines Dropped
-  dropped empty = is_drop Dropped empty
+  -- **Each device is empty, and no count rose.**
+  pub dropped : AllEmpty state faults call → AreStill state faults call.before call.after → IsDrop state faults call engines Dropped
+  dropped empty still = is_drop Dropped empty (λ _. record { reads = no_reads; writes = no_writes; devices = still })
 
   -- **A count rose.**
   pub not_dropped : (read : Type 0) → (read → MeterRose faults call.before.meters call.after.meters) → read
@@ -102,7 +103,7 @@ module _ {D M : Type 0} (state : D → DiskState) (faults : M → ℕ) (call : C
       ⊎ OneRose state call.before.store.values.items call.after.store.values.items
       ⊎ OneRowRose (λ row. row.items) state call.before.store.lanes.items call.after.store.lanes.items
       ⊎ OneRose state call.before.store.spills.items call.after.store.spills.items → IsDrop state faults call engines DiskFault
-  not_dropped read among rose = is_drop DiskFault (any rose)
+  not_dropped read among rose = is_drop DiskFault (any rose) (λ is. absurd (cc))
     where
       any : read
           ⊎ OneRose state call.before.store.graphs.items call.after.store.graphs.items

@@ -1,5 +1,5 @@
 -- What serving a chunk comes to.
-use Rattle.std.specs.Prelude.{◌≡◌, ℕ, ◌<◌, ◌≤◌, List, Option, Some, IfSome, length, take, slice_index_or, slice_get, option_and_then, Vec}
+use Rattle.std.specs.Prelude.{◌≡◌, ℕ, ⊤, ◌<◌, ◌≤◌, List, Option, Some, IfSome, length, take, slice_index_or, slice_get, option_and_then, Vec}
 use Rattle.std.specs.Global.{Global}
 use Rattle.std.specs.List.{All}
 use Rattle.ports.specs.Disk.{DiskState}
@@ -82,6 +82,12 @@ pub record IsFoundChunk {D M X : Type 0} (state : D → DiskState) (layout : Lay
   pub there : t < length (places_of serving.index.now engine partition)
   pub stands : IfSome (told_at state serving.shelf engine (place_at serving.index.now engine partition t).lane)
       (λ bytes. (items : List X) × IsChunkIn layout serving.split.now most partition (place_at serving.index.now engine partition t).at bytes items)
+
+-- so where no read failed and no chunk was refused
+abbrev pub OnServed : Served → Type 0 → Type 0
+OnServed (Chunk count) P = P
+OnServed Exhausted P = P
+OnServed _ P = ⊤
 
 -- What each answer says: of the claim, and of the chunk that was taken.
 abbrev pub HasServed : (claims : Claim → Type 0) (reads : (t count : ℕ) → Type 0) (rose : Type 0) (refuses : (t at : ℕ) → Type 0) → Served → Type 0

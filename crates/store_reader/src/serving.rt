@@ -7,7 +7,7 @@ ghost use Rattle.chunk_cursor.specs.View.{knows, MayClaim};
 ghost use Rattle.chunk_model.specs.ChunkBytes.{chunk_width};
 ghost use Rattle.partitioner.specs.Splits.{IsSplit};
 ghost use Rattle.chunk_file.specs.Places.{places_of};
-ghost use Rattle.store_reader.specs.Serving.{told_at, has_device, HasLane, place_at, AddsClaim, HasServed, HasDevices, ReadsAt, RefusesAt};
+ghost use Rattle.store_reader.specs.Serving.{told_at, has_device, HasLane, place_at, AddsClaim, HasServed, OnServed, HasDevices, ReadsAt, RefusesAt};
 
 use chunk_cursor::{Claim, CursorSeat, CursorTable};
 use chunk_file::{ChunkFault, Index, Record, read_chunk};
@@ -99,6 +99,7 @@ pub fn serve<R: Record, D: Disk>(
     requires room { chunk_width (R.layout from.now.job.now.format).width (length into.old) ≤ length bytes.old }
     ensures table { seat.new.table ≡ seat.old.table }
     ensures later { D.M.faults meter.old ≤ D.M.faults meter.new }
+    ensures calm { OnServed result (D.M.faults meter.new ≡ D.M.faults meter.old) }
     ensures served { HasServed
         (AddsClaim seat.old.view seat.new.view (cursor_of engine partition))
         (λ t count. ReadsAt (R.layout from.now.job.now.format) from.now.split.now partition (place_at from.now.index.now engine partition t)

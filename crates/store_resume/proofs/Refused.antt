@@ -23,7 +23,7 @@ use Rattle.store_rounds.proofs.Stores.{whole_open}
 use Rattle.endings.specs.declared.ending.Ending.{Ending}
 use Rattle.endings.specs.declared.ending.Ending.TheVariants.{Memory, DiskFault}
 use Rattle.run_model.specs.Calls.{Call, IsReady, StoreGoesOn, IsBack}
-use Rattle.run_model.specs.Causes.{is_interrupted, Comes}
+use Rattle.run_model.specs.Causes.{is_interrupted, IsAnswered, Comes}
 use Rattle.run_model.specs.Printing.{Prints}
 use Rattle.run_model.specs.Epochs.{IsComplete, HasGone}
 use Rattle.run_model.specs.Runs.{MOST_BEATS}
@@ -42,6 +42,13 @@ not_complete (recover.EnginesDiffer held asked) complete = complete
 not_complete (recover.Damaged part engine place) complete = complete
 not_complete recover.DiskFault complete = complete
 not_complete recover.Memory complete = complete
+
+not_answered : (why : RecoverFault) → IsAnswered (refusal why) → ⊥
+not_answered recover.NotPrepared answered = answered
+not_answered (recover.EnginesDiffer held asked) answered = answered
+not_answered (recover.Damaged part engine place) answered = answered
+not_answered recover.DiskFault answered = answered
+not_answered recover.Memory answered = answered
 
 -- a cause, by a count that is one of several
 pub cause_among : (one several : Type 0) (IsFound : damage.Fault → Type 0) (why : RecoverFault) → (one → several) → HasRecoverCause one IsFound why → HasRecoverCause several IsFound why
@@ -163,6 +170,7 @@ module _ {D M : Type 0} (state : D → DiskState) (lawful : (d : D) → IsDisk (
   refused_resume why found of_job = record {
     cause = cause_of why found;
     exact = exact_of why found;
+    calm = λ answered. absurd (not_answered why answered);
     printed = printed_of why;
     unread = unread;
     no_reads = no_reads;

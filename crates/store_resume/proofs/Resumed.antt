@@ -4,7 +4,7 @@ use Rattle.std.specs.Prelude.{Vec}
 use Rattle.std.specs.Global.{Global}
 use Rattle.ports.specs.Disk.{DiskState, IsDisk, InEveryImage}
 use Rattle.ports.specs.Stops.{AreImages}
-use Rattle.ports.specs.Devices.{MetersGoOn}
+use Rattle.ports.specs.Devices.{NoMeterRose, MetersGoOn}
 use Rattle.graph_model.specs.declared.edge.Edge.{Edge}
 use Rattle.graph_model.specs.declared.job.Job.{Job}
 use Rattle.graph_model.specs.Jobs.{IsWellFormedJob}
@@ -55,7 +55,7 @@ use Rattle.endings.specs.declared.ending.Report.{Report}
 use Rattle.endings.specs.declared.ending.Ending.{Ending}
 use Rattle.endings.specs.declared.ending.Ending.TheVariants.{Answered, WriteFault, RoundLimit, Memory}
 use Rattle.run_model.specs.Telling.{ending_of, report_of}
-use Rattle.run_model.specs.Calls.{Call, IsReady, IsBack}
+use Rattle.run_model.specs.Calls.{Call, IsReady, NoneFailed, IsBack}
 use Rattle.run_model.specs.Causes.{is_interrupted, IsAnswered, Comes}
 use Rattle.store_rounds.specs.Printed.{AnswerPrinted, FrontPrinted}
 use Rattle.run_model.specs.Epochs.{HasGone, AreJobEpochs, IsReportOf}
@@ -71,7 +71,7 @@ use Rattle.store_resume.proofs.Refused.{refused_resume}
 use Rattle.store_resume.proofs.Starts.{opened_found, job_found, places_found, start_found, handed_in, one_start, behind_kept, stood_from}
 
 module _ {D M : Type 0} (state : D → DiskState) (lawful : (d : D) → IsDisk (state d)) (faults : M → ℕ) (call : Call D M) (meters : List M) (engines : ℕ) (found : Recovered) (formed : IsWellFormedJob (job_in found)) (as_many : (job_in found).engines ≡ engines)
-    (ready : IsReady state engines call.before) (on : MetersGoOn faults call.before.meters meters)
+    (ready : IsReady state engines call.before) (on : MetersGoOn faults call.before.meters meters) (calm : NoMeterRose faults call.before.meters meters)
     (recovered : (graphs values : List (List ℕ)) → Tell state call.before.store.graphs.items graphs → Tell state call.before.store.values.items values → IsRecovered graphs values found) where
   abbrev job : Job
   job = job_in found
@@ -367,11 +367,26 @@ module _ {D M : Type 0} (state : D → DiskState) (lawful : (d : D) → IsDisk (
         (are_images state call.before.store.graphs.items graphs tell_graphs.many (told_images state lawful call.before.store.graphs.items graphs tell_graphs))
         (are_images state call.before.store.values.items values tell_values.many (told_images state lawful call.before.store.values.items values tell_values))
 
+    -- no count rose where the answer was printed
+    calm_of : (ended : Finish) → RunsTo (rounds_of ended) → HasFinishCause faults meters call.after.meters call.write_faults call.write_faults_after ended → IsAnswered (ending_of job (index_in found) ended) → NoneFailed state faults call
+    calm_of (finish.Answered done) runs caused answered = record {
+      reads = no_reads;
+      writes = caused.caused.1;
+      devices = (ap (λ (graphs : Vec D Global). map (λ (d : D). (state d).faults) graphs.items) runs.keeps.graphs, (caused.caused.0 ∙ calm, runs.calm));
+    }
+    calm_of (finish.NotWritten done) runs caused answered = absurd answered
+    calm_of (finish.NotRead done) runs caused answered = absurd answered
+    calm_of (finish.Stopped fault.RoundLimit) runs caused answered = absurd answered
+    calm_of (finish.Stopped fault.DiskFault) runs caused answered = absurd answered
+    calm_of (finish.Stopped (fault.Damaged part engine place)) runs caused answered = absurd answered
+    calm_of (finish.Stopped fault.Memory) runs caused answered = absurd answered
+
     finished_resume : (ended : Finish) → RunsTo (rounds_of ended) → HasPrints state (split_for job) call.after.store.values.items (shows_side job.program) ended call.out call.out_after
         → HasFinishCause faults meters call.after.meters call.write_faults call.write_faults_after ended → IsResume state faults call engines (ending_of job (index_in found) ended)
     finished_resume ended runs prints caused = record {
       cause = resume_cause ended runs caused;
       exact = λ graphs values tell_graphs tell_values others check fails. absurd (recovered_has_none graphs values found check (recovered graphs values tell_graphs tell_values) fails);
+      calm = calm_of ended runs caused;
       printed = printed_of ended prints;
       unread = unread;
       no_reads = no_reads;

@@ -31,7 +31,7 @@ use Rattle.store_rounds.specs.Printed.{AnswerPrinted, FrontPrinted}
 use Rattle.endings.specs.declared.ending.Ending.{Ending}
 use Rattle.endings.specs.declared.ending.Ending.TheVariants.{Answered, Dropped, Usage, BadLine, DiskFault, RoundLimit, Memory, ReadFault, WriteFault, NotPrepared, EnginesDiffer, Damaged, TooLong, StoreHolds}
 use Rattle.run_model.specs.Telling.{CountsChunks}
-use Rattle.run_model.specs.Calls.{Call, AnyRose, IsBack}
+use Rattle.run_model.specs.Calls.{Call, AnyRose, NoneFailed, IsBack}
 use Rattle.run_model.specs.Causes.{is_interrupted, IsAnswered, Comes}
 use Rattle.run_model.specs.Printing.{Prints}
 use Rattle.run_model.specs.Epochs.{IsComplete, HasGone, AreJobEpochs}
@@ -160,12 +160,13 @@ module _ {D M : Type 0} (state : D → DiskState) (faults : M → ℕ) (call : C
       pub kept : AreSettled graphs values → (round : ℕ) → IsKeptRound job edges values round
           → AtEachStop state call (λ b stopped_graphs stopped. (later : ℕ) × (round ≤ later) × IsEverywhere job edges stopped later)
 
-  -- **A resume**: it ends with a cause; each check that fails is answered, the first of them; of a whole store of a job it
-  -- makes the job's rounds and prints its answer; all is in its place; no graph device is touched; and what stops leave of
-  -- a store of a job is one of that job.
+  -- **A resume**: it ends with a cause; each check that fails is answered, the first of them; where it has answered no call
+  -- failed; of a whole store of a job it makes the job's rounds and prints its answer; all is in its place; no graph device
+  -- is touched; and what stops leave of a store of a job is one of that job.
   pub record IsResume (engines : ℕ) (ending : Ending) : Type 0 where
     pub cause : HasResumeCause ending
     pub exact : OfBytes (λ graphs values. (fault : damage.Fault) → HasFault graphs values fault → Comes (told_as fault) ending)
+    pub calm : IsAnswered ending → NoneFailed state faults call
     pub printed : HasPrintedNothing ending
     pub unread : call.text_after ≡ call.text
     pub no_reads : call.read_faults_after ≡ call.read_faults

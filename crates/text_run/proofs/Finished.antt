@@ -4,7 +4,7 @@ use Rattle.std.specs.Prelude.{Vec}
 use Rattle.std.specs.Global.{Global}
 use Rattle.std.proofs.lemmas.Bool.{cases_lt}
 use Rattle.ports.specs.Disk.{DiskState, IsDisk, InEveryImage}
-use Rattle.ports.specs.Devices.{MetersGoOn}
+use Rattle.ports.specs.Devices.{MetersGoOn, NoneRose, NoMeterRose}
 use Rattle.graph_model.specs.declared.edge.Edge.{Edge}
 use Rattle.graph_model.specs.declared.job.Job.{Job}
 use Rattle.graph_model.specs.Jobs.{IsWellFormedJob}
@@ -22,6 +22,7 @@ use Rattle.store_reader.specs.declared.store.Store.{Store}
 use Rattle.store_reader.specs.Devices.{SomeShut}
 use Rattle.storage_engine.specs.Preparing.{IsMadeOf, Prepares}
 use Rattle.epoch_laws.specs.Phases.{edge_shelf}
+use Rattle.scatter_epoch.specs.Scattering.{NoRowRose}
 use Rattle.round_steps.specs.Going.{AreDevices}
 use Rattle.round_steps.specs.Damage.{IsDamage}
 use Rattle.round_steps.proofs.Kept.{meters_then, meter_rose_later}
@@ -53,8 +54,8 @@ use Rattle.endings.specs.declared.ending.Report.{Report}
 use Rattle.endings.specs.declared.ending.Ending.{Ending}
 use Rattle.endings.specs.declared.ending.Ending.TheVariants.{Answered, WriteFault, RoundLimit}
 use Rattle.run_model.specs.Telling.{ending_of, report_of, CountsChunks}
-use Rattle.run_model.specs.Calls.{Call, OfText, IsReady, Tells, StoreGoesOn, IsBack}
-use Rattle.run_model.specs.Causes.{IsDamageOfMade, HasCause}
+use Rattle.run_model.specs.Calls.{Call, OfText, IsReady, Tells, StoreGoesOn, NoneFailed, IsBack}
+use Rattle.run_model.specs.Causes.{IsDamageOfMade, HasCause, IsAnswered}
 use Rattle.run_model.specs.Printing.{HasPrinted}
 use Rattle.store_rounds.specs.Printed.{AnswerPrinted, FrontPrinted}
 use Rattle.run_model.specs.Epochs.{HasGone, AreJobEpochs, IsReportOf}
@@ -300,14 +301,41 @@ module _ {D M : Type 0} (state : D → DiskState) (lawful : (d : D) → IsDisk (
       (given_are state job well second call.text call.text_after call.before.beat now read call.before.store new index prepares lanes spills call.before.meters call.before.seat ready told told_is)
       (counts_of_finish job prepares.made.0 index well (engine_counted job prepares.made.0 (storable state job well second call.text call.text_after call.before.beat now read call.before.store new index prepares lanes spills call.before.meters call.before.seat ready) index prepares.made.1.places) ended report is)
 
+  -- no call failed, where it has answered
+  calm_of : (ended : Finish) → RunsTo (rounds_of ended) → HasFinishCause faults meters call.after.meters call.write_faults call.write_faults_after ended
+      → NoMeterRose faults call.before.meters meters → call.read_faults_after ≡ call.read_faults → IsAnswered (ending_of job index ended) → NoneFailed state faults call
+  calm_of (finish.Answered done) runs caused still reads answered = record {
+    reads = reads;
+    writes = caused.caused.1;
+    devices = (
+      subst (λ (graphs : Vec D Global). NoneRose state call.before.store.graphs.items graphs.items) (sym runs.keeps.graphs) prepares.calm.0,
+      (
+        caused.caused.0 ∙ still,
+        record {
+          values = runs.calm.values ∙ prepares.calm.1;
+          lanes = subst (λ (rows : Vec (Vec D Global) Global). NoRowRose state rows.items call.after.store.lanes.items) lanes runs.calm.lanes;
+          spills = subst (λ (devices : Vec D Global). NoneRose state devices.items call.after.store.spills.items) spills runs.calm.spills;
+        },
+      ),
+    );
+  }
+  calm_of (finish.NotWritten done) runs caused still reads answered = absurd answered
+  calm_of (finish.NotRead done) runs caused still reads answered = absurd answered
+  calm_of (finish.Stopped fault.RoundLimit) runs caused still reads answered = absurd answered
+  calm_of (finish.Stopped fault.DiskFault) runs caused still reads answered = absurd answered
+  calm_of (finish.Stopped (fault.Damaged part engine place)) runs caused still reads answered = absurd answered
+  calm_of (finish.Stopped fault.Memory) runs caused still reads answered = absurd answered
+
   -- **A run whose store was made**
   finished_run : (ended : Finish) → RunsTo (rounds_of ended) → Prints state (split_for job) call.after.store.values.items (shows_side job.program) ended call.out call.out_after
-      → HasFinishCause faults meters call.after.meters call.write_faults call.write_faults_after ended → IsRun state faults job call (ending_of job index ended)
-  finished_run ended runs prints caused =
+      → HasFinishCause faults meters call.after.meters call.write_faults call.write_faults_after ended → NoMeterRose faults call.before.meters meters → call.read_faults_after ≡ call.read_faults
+      → IsRun state faults job call (ending_of job index ended)
+  finished_run ended runs prints caused still reads =
       let cause = cause_of ended runs caused in
       record {
         cause = cause;
         exact = exact state faults job call (unprepared state faults job call shut) (ending_of job index ended) cause;
+        calm = calm_of ended runs caused still reads;
         printed = printed_of ended runs prints;
         all_read = λ answered told is. (accepted told is).1;
         epochs = runs.epochs;
@@ -321,5 +349,6 @@ module _ {D M : Type 0} (state : D → DiskState) (lawful : (d : D) → IsDisk (
       }
 
   pub finished_as : (ended : Finish) → RunsTo (rounds_of ended) → Prints state (split_for job) call.after.store.values.items (shows_side job.program) ended call.out call.out_after
-      → HasFinishCause faults meters call.after.meters call.write_faults call.write_faults_after ended → (ending : Ending) → ending ≡ ending_of job index ended → IsRun state faults job call ending
-  finished_as ended runs prints caused ending is = subst (λ (e : Ending). IsRun state faults job call e) (sym is) (finished_run ended runs prints caused)
+      → HasFinishCause faults meters call.after.meters call.write_faults call.write_faults_after ended → NoMeterRose faults call.before.meters meters → call.read_faults_after ≡ call.read_faults
+      → (ending : Ending) → ending ≡ ending_of job index ended → IsRun state faults job call ending
+  finished_as ended runs prints caused still reads ending is = subst (λ (e : Ending). IsRun state faults job call e) (sym is) (finished_run ended runs prints caused still reads)

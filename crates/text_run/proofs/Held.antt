@@ -65,6 +65,7 @@ module _ {D M : Type 0} (state : D → DiskState) (lawful : (d : D) → IsDisk (
   run ending not_complete not_answered cause exact printed stands = record {
     cause = cause;
     exact = exact;
+    calm = λ answered. absurd (not_answered answered);
     printed = printed;
     all_read = λ answered. absurd (not_answered answered);
     epochs = [];

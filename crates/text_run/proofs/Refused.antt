@@ -126,6 +126,7 @@ module _ {D M : Type 0} (state : D → DiskState) (faults : M → ℕ) (job : Jo
       record {
         cause = cause;
         exact = exact state faults job call (unprepared state faults job call shut) (refusal (text_limit job.chunk) why) cause;
+        calm = λ answered. absurd (not_answered (text_limit job.chunk) why answered);
         printed = printed_of state faults job call (text_limit job.chunk) why (prints_nothing state job call refl);
         all_read = λ answered. absurd (not_answered (text_limit job.chunk) why answered);
         epochs = [];

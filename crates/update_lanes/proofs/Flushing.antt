@@ -10,6 +10,7 @@ use Rattle.graph_model.specs.declared.job.Job.{Job}
 use Rattle.graph_model.specs.declared.value.Update.{Update}
 use Rattle.graph_model.specs.Jobs.{parts_of}
 use Rattle.ports.specs.Disk.{DiskState}
+use Rattle.ports.specs.Devices.{NoneRose}
 use Rattle.partitioner.specs.declared.split.Split.{Split}
 use Rattle.partitioner.specs.Splits.{IsSplitOf}
 use Rattle.chunk_model.specs.Chunks.{Chunk, chunk_of, full_chunks, left_over}
@@ -33,6 +34,7 @@ pub record IsFlushing {X : Type 0} (state : X → DiskState) (number q : ℕ) (o
   pub room : HasRoom now
   pub buffers : now.buffers ≡ old.buffers
   pub go_on : GoOn state number lanes written
+  pub calm : NoneRose state lanes written
   pub ready : AreReady state now.split.engines number (length noted) written
   pub few : (p : ℕ) → (places_in p noted ≤ places_in p places + 1) × (q ≤ p → places_in p noted ≤ places_in p places)
   pub within : All (IsWithin old.split.engines old.split.parts) places → All (IsWithin old.split.engines old.split.parts) noted
@@ -59,6 +61,7 @@ flushing_none state number old lanes places room ready go = record {
   room = room;
   buffers = refl;
   go_on = go;
+  calm = refl;
   ready = ready;
   few = λ p. (omega arith, λ _. omega arith);
   within = λ all. all;
@@ -82,6 +85,7 @@ flushing_skip state number q old now lanes written places noted d below none is 
   room = is.room;
   buffers = is.buffers;
   go_on = is.go_on;
+  calm = is.calm;
   ready = is.ready;
   few = λ p. ((is.few p).0, λ later. (is.few p).1 (omega (arith, later)));
   within = is.within;
@@ -127,15 +131,16 @@ few_more q p start old new engines noted few = by_place (same_or_other q p)
 
 pub flushing_one : {X : Type 0} (state : X → DiskState) (number q : ℕ) (old now new : Outgoing) (lanes mid written : List X) (places noted after : List Placed) (d : Vec Update Global) → q < length old.buffers.items → q < old.split.parts
     → 0 < length (get_or now.buffers.items q d).items → IsFlushing state number q old now lanes mid places noted
-    → IsSameRoom now new → HasRoom new → new.buffers ≡ now.buffers → GoOn state number mid written → AreReady state new.split.engines number (length after) written → HasNoted now.split.engines q noted after
+    → IsSameRoom now new → HasRoom new → new.buffers ≡ now.buffers → GoOn state number mid written → NoneRose state mid written → AreReady state new.split.engines number (length after) written → HasNoted now.split.engines q noted after
     → ((seed stream engines : ℕ) (made : List (Chunk Update)) (e : Vec Update Global) → HasMade state seed stream engines now.placer mid noted made
     → HasMade state seed stream engines new.placer written after (made ++ record { partition = q; items = (get_or now.buffers.items q e).items } ∷ []))
     → IsFlushing state number (q + 1) old new lanes written places after
-flushing_one {X} state number q old now new lanes mid written places noted after d below in_parts some is same room buffers go ready one more = record {
+flushing_one {X} state number q old now new lanes mid written places noted after d below in_parts some is same room buffers go calm ready one more = record {
   same = record { split = same.split ∙ is.same.split; size = same.size ∙ is.same.size; format = same.format ∙ is.same.format; bytes = same.bytes ∙ is.same.bytes };
   room = room;
   buffers = buffers ∙ is.buffers;
   go_on = goes_on state number lanes mid written is.go_on go;
+  calm = calm ∙ is.calm;
   ready = ready;
   few = λ p. few_more q p places noted after now.split.engines one (is.few p);
   within = λ all.

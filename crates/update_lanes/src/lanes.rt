@@ -4,7 +4,7 @@ ghost use Rattle.std.specs.List.{All};
 ghost use Rattle.graph_model.specs.declared.value.Update.{Update as UpdateOf};
 ghost use Rattle.chunk_model.specs.Chunks.{Chunk};
 ghost use Rattle.chunk_model.specs.Layout.{holds_update};
-ghost use Rattle.ports.specs.Devices.{OneRose};
+ghost use Rattle.ports.specs.Devices.{OneRose, NoneRose};
 ghost use Rattle.update_lanes.specs.Lanes.{HasMade, HasNoted, AreReady, GoOn};
 
 use chunk_file::append_chunk;
@@ -70,6 +70,7 @@ pub fn write_chunk<D: Disk>(
     ensures noted { OnOk result (HasNoted placer.old.engines partition places.old.items places.new.items) }
     ensures kept { OnErr result (places.new.items ≡ places.old.items) }
     ensures cause { IfErr result (λ fault. fault ≡ LaneFault.DiskFault → OneRose D.state lanes.old lanes.new) }
+    ensures calm { OnOk result (NoneRose D.state lanes.old lanes.new) }
 {
     if places.len() >= MOST_PLACES {
         return Err(LaneFault::Memory);

@@ -3,8 +3,8 @@
 //!
 //! To the room above it promises that lanes and places are exactly the chunks that the definition makes of the updates
 //! sent, in their order; that edges send just what the definition says, from all vertices or from those that changed; that
-//! a place is reserved before its chunk is written; and that a fault has raised the count of a lane. It touches nothing but
-//! the buffers, places and lanes that it is handed, and takes memory for buffers and places alone.
+//! a place is reserved before its chunk is written; that a fault has raised the count of a lane; and that on Ok none rose. It
+//! touches nothing but the buffers, places and lanes that it is handed, and takes memory for buffers and places alone.
 #![tactic(auto)]
 
 mod lanes;

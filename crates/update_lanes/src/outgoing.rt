@@ -10,7 +10,7 @@ ghost use Rattle.std.specs.List.{All};
 ghost use Rattle.chunk_model.specs.Chunks.{Chunk};
 ghost use Rattle.seeded_place.specs.Placing.{HasPlaced};
 ghost use Rattle.phase_model.specs.Lanes.{update_shelf};
-ghost use Rattle.ports.specs.Devices.{OneRose};
+ghost use Rattle.ports.specs.Devices.{OneRose, NoneRose};
 ghost use Rattle.update_lanes.specs.Lanes.{HasMade, HasNoted, HasFlushed, IsWithin, AreWritten, AreReady, GoOn};
 ghost use Rattle.update_lanes.specs.Outgoing.{HasRoom, AreBuffers, NoneWaits, NoneFull, HasSent, IsSameRoom, Gains, Empties};
 
@@ -94,6 +94,7 @@ pub fn put<D: Disk>(
     ensures within { All (IsWithin out.old.split.engines out.old.split.parts) places.old.items → All (IsWithin out.old.split.engines out.old.split.parts) places.new.items }
     ensures kept { OnErr result (places.new.items ≡ places.old.items) }
     ensures cause { IfErr result (λ fault. fault ≡ LaneFault.DiskFault → OneRose D.state lanes.old lanes.new) }
+    ensures calm { OnOk result (NoneRose D.state lanes.old lanes.new) }
 {
     let home = out.split.partition_of(update.dst);
     add(&mut out.buffers, home, update);
@@ -150,6 +151,7 @@ pub fn flush_rest<D: Disk>(
         → OnOk result (AreWritten D.state lanes.new places.new.items (update_shelf job epoch worker updates)) }
     ensures few { HasFlushed out.old.split.engines out.old.split.parts places.old.items places.new.items }
     ensures cause { IfErr result (λ fault. fault ≡ LaneFault.DiskFault → OneRose D.state lanes.old lanes.new) }
+    ensures calm { OnOk result (NoneRose D.state lanes.old lanes.new) }
 {
     'partitions: for partition in 0..out.split.parts {
         if out.buffers[partition as usize].is_empty() {
@@ -183,6 +185,7 @@ fn flush_one<D: Disk>(
     ensures noted { OnOk result (HasNoted out.old.split.engines partition places.old.items places.new.items) }
     ensures kept { OnErr result (places.new.items ≡ places.old.items) }
     ensures cause { IfErr result (λ fault. fault ≡ LaneFault.DiskFault → OneRose D.state lanes.old lanes.new) }
+    ensures calm { OnOk result (NoneRose D.state lanes.old lanes.new) }
 {
     write_chunk(
         lanes,
@@ -239,6 +242,7 @@ pub fn flush_lanes<D: Disk>(
         → OnOk result (AreWritten D.state lanes.new.items places.new.items (update_shelf job epoch worker updates)) }
     ensures few { HasFlushed out.old.split.engines out.old.split.parts places.old.items places.new.items }
     ensures cause { IfErr result (λ fault. fault ≡ LaneFault.DiskFault → OneRose D.state lanes.old.items lanes.new.items) }
+    ensures calm { OnOk result (NoneRose D.state lanes.old.items lanes.new.items) }
 {
     flush_rest(out, lanes, places, beat)
 }

@@ -4,7 +4,7 @@ ghost use Rattle.std.specs.List.{All};
 ghost use Rattle.graph_model.specs.declared.value.Value.{Value as ValueOf};
 ghost use Rattle.graph_model.specs.Rounds.{differs};
 ghost use Rattle.phase_model.specs.Sends.{sent_by};
-ghost use Rattle.ports.specs.Devices.{OneRose};
+ghost use Rattle.ports.specs.Devices.{OneRose, NoneRose};
 ghost use Rattle.update_lanes.specs.Lanes.{AreReady};
 ghost use Rattle.update_lanes.specs.Outgoing.{HasRoom, NoneFull, SendsOn, StopsOn};
 ghost use Rattle.update_lanes.specs.Sending.{sending_all, sending_changed, IsFrom, AreChanges};
@@ -34,6 +34,7 @@ pub fn send_all<P: VertexProgram, D: Disk>(
     ensures sends { OnOk result (SendsOn D.state beat.now out.old out.new lanes.old lanes.new places.old.items places.new.items (sent_by (sending_all (P.rules program.now) first now.now) edges.now)) }
     ensures stops { OnErr result (StopsOn D.state beat.now out.old out.new lanes.old lanes.new places.old.items places.new.items (length edges.now)) }
     ensures cause { IfErr result (λ fault. fault ≡ LaneFault.DiskFault → OneRose D.state lanes.old lanes.new) }
+    ensures calm { OnOk result (NoneRose D.state lanes.old lanes.new) }
 {
     'edges: for edge in edges {
         let value = now[(edge.src - first) as usize];
@@ -70,6 +71,7 @@ pub fn send_changed<P: VertexProgram, D: Disk>(
         → OnOk result (SendsOn D.state beat.now out.old out.new lanes.old lanes.new places.old.items places.new.items (sent_by (sending_changed (P.rules program.now) first before now.now) edges.now)) }
     ensures stops { OnErr result (StopsOn D.state beat.now out.old out.new lanes.old lanes.new places.old.items places.new.items (length edges.now)) }
     ensures cause { IfErr result (λ fault. fault ≡ LaneFault.DiskFault → OneRose D.state lanes.old lanes.new) }
+    ensures calm { OnOk result (NoneRose D.state lanes.old lanes.new) }
 {
     'edges: for edge in edges {
         let at = (edge.src - first) as usize;

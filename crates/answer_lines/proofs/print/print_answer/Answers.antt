@@ -1,4 +1,4 @@
-use Rattle.std.proofs.Common.{List, ℕ, arith, rules, sym, subst}
+use Rattle.std.proofs.Common.{List, ℕ, arith, rules, refl, sym, subst}
 use Rattle.graph_model.specs.Partitions.{first_vertex}
 use Rattle.value_text.specs.Shown.{shows_side}
 use Rattle.partitioner.proofs.Made.{some_part}
@@ -13,6 +13,8 @@ loop-partition-init g c = record {
   room = search rules;
   reads_later = omega arith;
   writes_later = omega arith;
+  reads_calm = refl;
+  writes_calm = refl;
 }
 
 pub returns-in-Ok-flush-clause-whole : goal.returns-in-Ok-flush-clause-whole

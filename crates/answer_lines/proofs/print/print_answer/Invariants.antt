@@ -1,4 +1,4 @@
-use Rattle.std.proofs.Common.{◌≤◌}
+use Rattle.std.proofs.Common.{◌≡◌, ◌≤◌}
 use Rattle.graph_model.specs.Partitions.{first_vertex}
 use Rattle.value_text.specs.Shown.{shows_side}
 use Rattle.answer_lines.specs.Room.{IsRoom}
@@ -11,4 +11,6 @@ invariant-loop-partition g l = record {
   room : IsRoom l.split l.room;
   reads_later : g.D.M.Meter.faults l.fn.meter ≤ g.D.M.Meter.faults l.meter;
   writes_later : g.K.Sink.faults l.fn.out ≤ g.K.Sink.faults l.out;
+  reads_calm : g.D.M.Meter.faults l.meter ≡ g.D.M.Meter.faults l.fn.meter;
+  writes_calm : g.K.Sink.faults l.out ≡ g.K.Sink.faults l.fn.out;
 }

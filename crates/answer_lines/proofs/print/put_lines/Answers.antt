@@ -14,4 +14,5 @@ loop-k-preserved g c = record {
   passes = line_passes (shows_side c.args.shown) c.args.first c.args.values.now c.loop-k.k c.deref.result.now c.args.lines.now c.loop-k.lines c.put.new.self _ _ _ c.loop-k-test.true (c.deref.ensures.0 ∙ c.put_line.ensures)
       c.loop-k.invariant.passes c.in_ok-put.ensures.passes;
   later = search rules;
+  calm = c.in_ok-put.ensures.cause.calm ∙ c.loop-k.invariant.calm;
 }

@@ -65,6 +65,7 @@ returns-in-Ok-clause-bench g c text reads =
     (inl (record {
       answered = refl;
       prints = subst (λ (piece : List ℕ). Prints out out_after piece) (c.deref.ensures.0 ∙ c.summary_lines-lines.ensures) c.in-Ok.ensures.whole;
+      calm = c.in-Ok.ensures.cause.calm;
     })) (λ fits line is. cc) refl refl
 
 pub returns-in-Err-clause-bench : goal.returns-in-Err-clause-bench

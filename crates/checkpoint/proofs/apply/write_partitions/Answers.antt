@@ -1,5 +1,5 @@
 -- One partition more, and all of them.
-use Rattle.std.proofs.Common.{◌≡◌, ℕ, Some, map, sym, ◌∙◌, subst, arith}
+use Rattle.std.proofs.Common.{◌≡◌, ℕ, Some, map, refl, sym, ◌∙◌, subst, arith}
 use Rattle.graph_model.specs.Programs.{Rules}
 use Rattle.partitioner.specs.declared.split.Split.{Split}
 use Rattle.ports.specs.Disk.{DiskState, InEveryImage}
@@ -25,6 +25,7 @@ loop-partition-init g c =
       beat = c.requires.beat;
       faults = omega arith;
       reads = omega arith;
+      calm = (refl, refl);
     }
 
 pub loop-partition-preserved-then-master_of-engine : goal.loop-partition-preserved-then-master_of-engine
@@ -40,6 +41,7 @@ loop-partition-preserved-then-master_of-engine g c =
       beat = c.loop-partition.invariant.beat;
       faults = c.loop-partition.invariant.faults;
       reads = c.loop-partition.invariant.reads;
+      calm = c.loop-partition.invariant.calm;
     }
 
 pub write_partition-requires-clause-exact : goal.write_partition-requires-clause-exact
@@ -85,6 +87,7 @@ loop-partition-preserved g c =
       beat = c.write_partition.ensures.beat;
       faults = omega (arith, c.loop-partition.invariant.faults, c.write_partition.ensures.cause.later);
       reads = omega (arith, c.loop-partition.invariant.reads, c.write_partition.ensures.cause.later');
+      calm = (c.in_ok-changed.ensures.cause.calm.0 ∙ c.loop-partition.invariant.calm.0, c.in_ok-changed.ensures.cause.calm.1 ∙ c.loop-partition.invariant.calm.1);
     }
 
 pub returns-clause-stored : goal.returns-clause-stored

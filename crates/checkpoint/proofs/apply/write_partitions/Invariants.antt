@@ -13,4 +13,5 @@ invariant-loop-partition g l = record {
   beat : (g.D.Disk.state l.disk).beat ≤ l.context.beat.now;
   faults : (g.D.Disk.state l.fn.disk).faults ≤ (g.D.Disk.state l.disk).faults;
   reads : g.D.M.Meter.faults l.fn.meter ≤ g.D.M.Meter.faults l.meter;
+  calm : ((g.D.Disk.state l.disk).faults ≡ (g.D.Disk.state l.fn.disk).faults) × (g.D.M.Meter.faults l.meter ≡ g.D.M.Meter.faults l.fn.meter);
 }

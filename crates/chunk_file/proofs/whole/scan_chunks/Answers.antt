@@ -1,4 +1,4 @@
-use Rattle.std.proofs.Common.{◌≡◌, ℕ, ◌+◌, ◌*◌, ◌<◌, length, drop, ap, sym, subst, inl, arith}
+use Rattle.std.proofs.Common.{◌≡◌, ◌∙◌, refl, ℕ, ◌+◌, ◌*◌, ◌<◌, length, drop, ap, sym, subst, inl, arith}
 use Rattle.std.specs.Prelude.{IfSome}
 use Rattle.ports.specs.Faults.{Rose}
 use Rattle.ports.proofs.Rising.{count_rose_before}
@@ -16,6 +16,7 @@ chunks-init g c = record {
   from = omega arith;
   few = c.requires.few;
   later = omega arith;
+  calm = refl;
   scanned = as_told_of_any (λ told. Scanned c.args.format c.args.split.now (length c.args.edges.now) c.args.engine told c.args.into.now c.args.into.now (drop 65 told))
       (g.D.Disk.state c.args.disk.now).bytes
       (λ told. scanned_none c.args.format c.args.split.now (length c.args.edges.now) c.args.engine told c.args.into.now);
@@ -66,6 +67,7 @@ chunks-preserved g c =
         c.if-total-ge-MOST_PLACES.false,
       );
       later = omega (arith, c.chunks.invariant.later, c.in-Ok.ensures.later);
+      calm = c.in-Ok.ensures.calm ∙ c.chunks.invariant.calm;
       scanned =
           as_told_of_three (λ bytes. Scanned c.args.format c.args.split.now most c.args.engine bytes c.args.into.now c.chunks.into (drop c.chunks.at bytes))
           (λ bytes. size ≡ length bytes) (λ bytes. IsNext c.args.format c.args.split.now most c.chunks.at bytes partition c.in-Ok.found.size)

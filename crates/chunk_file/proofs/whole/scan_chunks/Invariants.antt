@@ -1,4 +1,4 @@
-use Rattle.std.proofs.Common.{◌-◌, ◌≤◌, drop, length}
+use Rattle.std.proofs.Common.{◌≡◌, ◌-◌, ◌≤◌, drop, length}
 use Rattle.std.specs.Prelude.{IfSome}
 use Rattle.chunk_file.specs.declared.index.TheConstants.{MOST_PLACES}
 use Rattle.chunk_file.specs.declared.whole.TheConstants.{FIRST_CHUNK}
@@ -11,6 +11,7 @@ invariant-chunks g l = record {
   from : FIRST_CHUNK ≤ l.at;
   few : total_of l.into ≤ MOST_PLACES;
   later : g.D.M.Meter.faults l.initial.meter ≤ g.D.M.Meter.faults l.meter;
+  calm : g.D.M.Meter.faults l.meter ≡ g.D.M.Meter.faults l.initial.meter;
   scanned : IfSome (g.D.Disk.state l.disk).bytes (λ told. Scanned l.format l.split (length l.initial.edges) l.engine told l.initial.into l.into (drop l.at told));
 }
 

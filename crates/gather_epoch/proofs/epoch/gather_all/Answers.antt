@@ -1,9 +1,9 @@
-use Rattle.std.proofs.Common.{ap, sym, ◌∙◌, inr, subst, arith, rules}
+use Rattle.std.proofs.Common.{ap, sym, ◌∙◌, inr, subst, arith}
 use Rattle.std.specs.List.{range_with_len}
 use Rattle.phase_model.specs.JobTerms.{terms_of}
 use Rattle.store_reader.specs.Indexed.{lens_of}
 use Rattle.gather_phase.specs.Phases.{MayStopBy}
-use Rattle.gather_epoch.proofs.Assembling.{ready, tables, are_seats, splits', beats', rooms_still, made, goes_on, rose_of, stopped_by, have_gathered, emptied_steps, emptied_early, emptied_size}
+use Rattle.gather_epoch.proofs.Assembling.{ready, tables, are_seats, splits', beats', rooms_still, made, goes_on, rose_of, none_rose, stopped_by, have_gathered, emptied_steps, emptied_early, emptied_size, emptied_calm}
 use Rattle.gather_epoch.proofs.epoch.gather_all.Goals as goal
 
 pub fork_gather-requires-clause-ready : goal.fork_gather-requires-clause-ready
@@ -69,6 +69,15 @@ returns-clause-cause g c fault =
     _ _ _ _ _ c.collect-gathered.ensures.dealt c.args.spills.now.items
     (emptied_steps g.D.Disk.state c.args.context.now.beat.now c.args.spills.now c.deref_mut.result.now c.empty_all.new.disks c.deref_mut.ensures.value c.empty_all.ensures.many c.empty_all.ensures.steps) (omega (arith, c.requires.spills.0, c.args.spills.now.ok.0))
     (sym c.collect-gathered.ensures.outcome ∙ fault)
+
+pub returns-clause-calm : goal.returns-clause-calm
+returns-clause-calm g c through =
+    none_rose g.P.VertexProgram.rules g.D.Disk.state g.D.M.Meter.faults c.args.context.now c.deal.new.crew.desks.items c.open_epoch.new.seats.items c.args.meters.now.items c.args.replicas.now.items _ c.args.crew.now.rooms.items c.deal.ensures.dealt
+    (c.deal.ensures.numbers ∙ ap (range_with_len 0) c.requires.meters) c.args.seat.now.view.splits c.open_epoch.ensures.seats c.fork_gather.new.desks.items (omega (arith, c.fork_gather.ensures.many.0, c.fork_gather.new.desks.ok.0, c.deal.new.crew.desks.ok.0)) c.fork_gather.ensures.worked
+    _ _ _ _ _ c.collect-gathered.ensures.dealt c.args.spills.now.items
+    (emptied_steps g.D.Disk.state c.args.context.now.beat.now c.args.spills.now c.deref_mut.result.now c.empty_all.new.disks c.deref_mut.ensures.value c.empty_all.ensures.many c.empty_all.ensures.steps) (omega (arith, c.requires.spills.0, c.args.spills.now.ok.0))
+    (sym c.collect-gathered.ensures.outcome ∙ through)
+    (emptied_calm g.D.Disk.state c.args.context.now.beat.now c.args.spills.now c.deref_mut.result.now c.empty_all.new.disks c.deref_mut.ensures.value c.empty_all.ensures.many c.empty_all.ensures.steps c.in_default.ensures.calm)
 
 pub returns-clause-stopped : goal.returns-clause-stopped
 returns-clause-stopped g c not =

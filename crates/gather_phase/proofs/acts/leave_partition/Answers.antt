@@ -12,7 +12,7 @@ use Rattle.gather_phase.proofs.acts.leave_partition.Goals as goal
 
 pub returns-in_default : goal.returns-in_default
 returns-in_default g c = record {
-  goes_on = record { worker = refl; split = refl; room = λ job is. is; reads = omega arith; writes = omega arith; told = λ bytes is. (bytes, is); caused = λ is. inl is };
+  goes_on = record { worker = refl; split = refl; room = λ job is. is; reads = omega arith; writes = omega arith; told = λ bytes is. (bytes, is); caused = λ is. inl is; calm = λ is. (is, refl, refl) };
   hold_is = refl;
   at_rest = λ e. record {
     at = left_idle _ _ _ _ _ _ _ _ _ _ _ c.args.partition c.in_default.is c.requires.may.at.at;
@@ -44,6 +44,7 @@ returns-in-Ok g c =
         writes = device.cause.later;
         told = told_on _ _ _ device.bytes;
         caused = λ is. inl is;
+        calm = λ is. (is, refl, device.cause.calm);
       };
       hold_is = refl;
       at_rest = λ e. record {
@@ -70,6 +71,7 @@ returns-in-Err g c =
         writes = device.cause.later;
         told = told_on _ _ _ device.bytes;
         caused = λ is. inr (inr device.cause.failed);
+        calm = λ is. absurd cc;
       };
       hold_is = refl;
       at_rest = λ e. cc;

@@ -21,7 +21,7 @@ add_updates-requires-clause-within g c κs within =
 
 pub returns-in-Exhausted : goal.returns-in-Exhausted
 returns-in-Exhausted g c = record {
-  goes_on = record { worker = refl; split = refl; room = λ job is. record { updates = c.in-Exhausted.ensures.rooms.1 ∙ is.updates; edges = is.edges; bytes = c.in-Exhausted.ensures.rooms.0 ∙ is.bytes }; reads = c.in-Exhausted.ensures.later; writes = omega arith; told = λ bytes is. (bytes, is); caused = λ is. inl is };
+  goes_on = record { worker = refl; split = refl; room = λ job is. record { updates = c.in-Exhausted.ensures.rooms.1 ∙ is.updates; edges = is.edges; bytes = c.in-Exhausted.ensures.rooms.0 ∙ is.bytes }; reads = c.in-Exhausted.ensures.later; writes = omega arith; told = λ bytes is. (bytes, is); caused = λ is. inl is; calm = λ is. (is, c.in-Exhausted.ensures.calm, refl) };
   table_is = c.in-Exhausted.ensures.table;
   call = c.in-Exhausted.ensures.served.call;
   at = λ ne. record {
@@ -44,7 +44,7 @@ returns-in-Chunk g c =
     let is_of = taken_of c.args.context.now.serving.job.now.engines c.args.context.now.serving.split.now.parts (lens_of c.args.context.now.serving.index.now) _ c.args.engine c.args.partition served.0 small c.requires.may.engine_is below c.requires.may.ready served.1.given in
     let long : length c.read_records-served.new.into.items ≡ c.args.context.now.serving.job.now.chunk = c.in-Chunk.ensures.rooms.1 ∙ c.requires.may.at.room.updates in
     record {
-      goes_on = record { worker = refl; split = c.add_updates.ensures.same.split ∙ come_stays _ _ _ c.args.partition c.come_to.ensures.come; room = λ job is. record { updates = c.in-Chunk.ensures.rooms.1 ∙ is.updates; edges = is.edges; bytes = c.in-Chunk.ensures.rooms.0 ∙ is.bytes }; reads = c.in-Chunk.ensures.later; writes = omega arith; told = λ bytes is. (bytes, is); caused = λ is. inl is };
+      goes_on = record { worker = refl; split = c.add_updates.ensures.same.split ∙ come_stays _ _ _ c.args.partition c.come_to.ensures.come; room = λ job is. record { updates = c.in-Chunk.ensures.rooms.1 ∙ is.updates; edges = is.edges; bytes = c.in-Chunk.ensures.rooms.0 ∙ is.bytes }; reads = c.in-Chunk.ensures.later; writes = omega arith; told = λ bytes is. (bytes, is); caused = λ is. inl is; calm = λ is. (is, c.in-Chunk.ensures.calm, refl) };
       table_is = c.in-Chunk.ensures.table;
       call = record { place = served.0; call = served.1.call; may = served.1.given };
       at = λ ne. record {
@@ -79,7 +79,7 @@ returns-in-Damaged g c =
           (told_at g.D.Disk.state c.args.context.now.serving.shelf c.args.engine (place_at c.args.context.now.serving.index.now c.args.engine c.args.partition served.0).lane) most c.in-Damaged.place) c.requires.may.at.room.updates served.2;
     } in
     record {
-      goes_on = record { worker = refl; split = refl; room = λ job is. record { updates = c.in-Damaged.ensures.rooms.1 ∙ is.updates; edges = is.edges; bytes = c.in-Damaged.ensures.rooms.0 ∙ is.bytes }; reads = c.in-Damaged.ensures.later; writes = omega arith; told = λ bytes is. (bytes, is); caused = λ is. absurd cc };
+      goes_on = record { worker = refl; split = refl; room = λ job is. record { updates = c.in-Damaged.ensures.rooms.1 ∙ is.updates; edges = is.edges; bytes = c.in-Damaged.ensures.rooms.0 ∙ is.bytes }; reads = c.in-Damaged.ensures.later; writes = omega arith; told = λ bytes is. (bytes, is); caused = λ is. absurd cc; calm = λ is. absurd cc };
       table_is = c.in-Damaged.ensures.table;
       call = record { place = served.0; call = served.1.call; may = served.1.given };
       at = λ ne. absurd (ne refl);
@@ -93,7 +93,7 @@ pub returns-in-DiskFault : goal.returns-in-DiskFault
 returns-in-DiskFault g c =
     let served = c.in-DiskFault.ensures.served in
     record {
-      goes_on = record { worker = refl; split = refl; room = λ job is. record { updates = c.in-DiskFault.ensures.rooms.1 ∙ is.updates; edges = is.edges; bytes = c.in-DiskFault.ensures.rooms.0 ∙ is.bytes }; reads = c.in-DiskFault.ensures.later; writes = omega arith; told = λ bytes is. (bytes, is); caused = λ is. inr (inl served.2) };
+      goes_on = record { worker = refl; split = refl; room = λ job is. record { updates = c.in-DiskFault.ensures.rooms.1 ∙ is.updates; edges = is.edges; bytes = c.in-DiskFault.ensures.rooms.0 ∙ is.bytes }; reads = c.in-DiskFault.ensures.later; writes = omega arith; told = λ bytes is. (bytes, is); caused = λ is. inr (inl served.2); calm = λ is. absurd cc };
       table_is = c.in-DiskFault.ensures.table;
       call = record { place = served.0; call = served.1.call; may = served.1.given };
       at = λ ne. absurd (ne refl);

@@ -29,7 +29,7 @@ work-worked-requires-clause-acts g c = record {
   proposes = λ p q k r may post. search rules;
   may_leave = λ p k may. (c.requires.serving, (may, grind serving));
   leaves = λ p q k r may post. search rules;
-  stays = λ desk. record { worker = refl; split = refl; room = λ job is. is; reads = omega arith; writes = omega arith; told = λ bytes is. (bytes, is); caused = λ is. inl is };
+  stays = λ desk. record { worker = refl; split = refl; room = λ job is. is; reads = omega arith; writes = omega arith; told = λ bytes is. (bytes, is); caused = λ is. inl is; calm = λ is. (is, refl, refl) };
   joins = λ a b d x y. goes_on_then g.D.Disk.state g.D.M.Meter.faults a b d x y;
   enters = λ desk k chunks below rests none. record {
     at = enters _ _ _ _ _ _ _ _ _ _ _ k (omega (arith, below, c.requires.serving.of_job.parts)) rests.at none;

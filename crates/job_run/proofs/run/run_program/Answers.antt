@@ -19,5 +19,5 @@ returns-in-Ok-clause-rounds g c =
 
 pub returns-in-Ok-clause-cause : goal.returns-in-Ok-clause-cause
 returns-in-Ok-clause-cause g c =
-    cause_since g.D.M.Meter.faults c.args.meters.now.items c.run_rounds.new.meters.items c.answer.new.meters.items c.in-Ok.ensures.run.meters
+    cause_since g.D.M.Meter.faults c.args.meters.now.items c.run_rounds.new.meters.items c.answer.new.meters.items c.in-Ok.ensures.run.meters c.in-Ok.ensures.calm
     (g.K.Sink.faults c.args.out.now) (g.K.Sink.faults c.answer.new.out) c.answer.result c.answer.ensures.cause

@@ -1,4 +1,4 @@
-use Rattle.std.proofs.Common.{List, ℕ, length, take, drop, arith, subst, ◌≤◌, length-drop}
+use Rattle.std.proofs.Common.{◌∙◌, List, ℕ, length, take, drop, arith, subst, ◌≤◌, length-drop}
 use Rattle.std.proofs.lemmas.List.{take_rest}
 use Rattle.ports.specs.Told.{AsTold}
 use Rattle.ports.specs.Sink.{Appends}
@@ -17,5 +17,5 @@ loop-done-preserved g c =
     record {
       within = omega (arith, length-drop done piece);
       appended = appends_more piece done count _ _ _ c.loop-done.invariant.appended more;
-      later = omega (arith, c.in_ok-done.ensures.cause.later);
+      calm = c.in_ok-done.ensures.cause.calm ∙ c.loop-done.invariant.calm;
     }

@@ -31,6 +31,7 @@ loop-worker-preserved g c = record {
       ∙ All-get_or (λ (r : Replicas). place_of r c.args.partition ≡ None) c.args.replicas.now c.loop-worker.worker c.index-replicas-worker.result (omega arith) none)).0
       ∙ c.loop-worker.invariant.unread none;
   later = omega (arith, c.in_ok-merge_worker.ensures.cause.later);
+  calm = c.in_ok-merge_worker.ensures.cause.calm ∙ c.loop-worker.invariant.calm;
 }
 
 pub returns-clause-merged : goal.returns-clause-merged

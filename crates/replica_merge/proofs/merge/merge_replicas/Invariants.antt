@@ -13,4 +13,5 @@ invariant-loop-worker g l = record {
       get_or l.into v 0 ≡ merged (g.P.VertexProgram.rules l.fn.program) (sums_for (take l.worker l.replicas) (take l.worker devices) l.partition v);
   unread : All (λ (r : Replicas). place_of r l.partition ≡ None) l.replicas → l.meter ≡ l.fn.meter;
   later : g.D.M.Meter.faults l.fn.meter ≤ g.D.M.Meter.faults l.meter;
+  calm : g.D.M.Meter.faults l.meter ≡ g.D.M.Meter.faults l.fn.meter;
 }

@@ -1,5 +1,5 @@
 -- A piece more, and all pieces.
-use Rattle.std.proofs.Common.{ℕ, ◌+◌, ◌*◌, length, take, refl, arith, length-take}
+use Rattle.std.proofs.Common.{ℕ, ◌+◌, ◌*◌, length, take, refl, ◌∙◌, arith, length-take}
 use Rattle.ports.proofs.Told.{sized_at}
 use Rattle.replica_merge.proofs.MergeSteps.{merged_piece}
 use Rattle.replica_merge.proofs.merge.merge_spilled.Goals as goal
@@ -18,6 +18,7 @@ loop-done-preserved g c =
           (omega (arith, sized_at (g.D.Disk.state c.args.disk.now) device (disks.lawful c.args.disk.now) told))
           (c.loop-done.invariant.told device told) (c.in_ok-merge_piece.ensures.merged device told);
       later = omega (arith, c.in_ok-merge_piece.ensures.cause.later);
+      calm = c.in_ok-merge_piece.ensures.cause.calm ∙ c.loop-done.invariant.calm;
     }
 
 pub returns-clause-merged : goal.returns-clause-merged

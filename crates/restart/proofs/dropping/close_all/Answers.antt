@@ -1,5 +1,6 @@
-use Rattle.std.proofs.Common.{◌<◌, ◌≤◌, length, rules, arith}
+use Rattle.std.proofs.Common.{◌∙◌, ◌<◌, length, rules, arith}
 use Rattle.std.proofs.lemmas.Grind.{common_steps}
+use Rattle.std.proofs.Math.Seq.{map-set_same}
 use Rattle.restart.proofs.Devices.{one_done}
 use Rattle.restart.proofs.dropping.close_all.Goals as goal
 
@@ -11,4 +12,8 @@ loop-disk-preserved g c =
     record {
       done = one_done _ _ c.loop-disk.disk-index c.args.graphs.now c.loop-disk.graphs c.disk-item.result c.close_gate.new.disk within c.loop-disk.invariant.done c.close_gate.ensures.closes c.in_ok-close_gate.ensures.shut;
       later = omega (arith, before, closed);
+      calm = c.in_ok-close_gate.ensures.cause.calm.0 ∙ c.loop-disk.invariant.calm;
+      calm_graphs =
+          map-set_same (λ x. (g.D.Disk.state x).faults) c.loop-disk.graphs c.loop-disk.disk-index c.close_gate.new.disk c.disk-item.result c.in_ok-close_gate.ensures.cause.calm.1
+          ∙ c.loop-disk.invariant.calm_graphs;
     }

@@ -1,4 +1,5 @@
-use Rattle.std.proofs.Common.{◌≤◌}
+use Rattle.std.proofs.Common.{◌≡◌, ◌≤◌}
+use Rattle.ports.specs.Devices.{NoneRose}
 use Rattle.ports.specs.Disk.{InEveryImage}
 use Rattle.store_model.specs.Heads.{IsShutGraph}
 use Rattle.restart.specs.Dropping.{Closes}
@@ -9,4 +10,6 @@ abbrev pub invariant-loop-disk : goal.invariant-loop-disk
 invariant-loop-disk g l = record {
   done : DoneBelow (λ old new. Closes l.beat (g.D.Disk.state old) (g.D.Disk.state new)) (λ disk. InEveryImage (g.D.Disk.state disk) IsShutGraph) l.disk-index l.fn.graphs l.graphs;
   later : g.D.M.Meter.faults l.fn.meter ≤ g.D.M.Meter.faults l.meter;
+  calm : g.D.M.Meter.faults l.meter ≡ g.D.M.Meter.faults l.fn.meter;
+  calm_graphs : NoneRose g.D.Disk.state l.fn.graphs l.graphs;
 }

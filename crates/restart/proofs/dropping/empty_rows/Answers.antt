@@ -1,8 +1,10 @@
-use Rattle.std.proofs.Common.{◌≡◌, ◌<◌, length, get_or, rules, arith}
+use Rattle.std.proofs.Common.{◌≡◌, ◌∙◌, ◌<◌, length, get_or, map, rules, arith}
 use Rattle.std.proofs.lemmas.Grind.{common_steps}
 use Rattle.std.specs.List.{All}
+use Rattle.std.specs.Vec.{with_items}
+use Rattle.std.proofs.Math.Seq.{map-set_same}
 use Rattle.ports.proofs.Rising.{on_err}
-use Rattle.ports.specs.Devices.{Each, OneRose}
+use Rattle.ports.specs.Devices.{Each, OneRose, NoneRose}
 use Rattle.restart.specs.Dropping.{Empties, IsEmpty}
 use Rattle.restart.proofs.Devices.{next_steps, one_done, given_back, row_rose_here}
 use Rattle.restart.proofs.dropping.empty_rows.Goals as goal
@@ -13,9 +15,15 @@ loop-row-preserved g c =
     let lent : c.deref_mut.result.now ≡ row.items = c.deref_mut.ensures.value in
     let within : c.loop-row.row-index < length c.loop-row.rows = first_of (omega arith, search rules, grind (arith, common_steps)) in
     let many = c.empty_all.ensures.empties.many in
-    one_done _ _ c.loop-row.row-index c.args.rows.now c.loop-row.rows c.row-item.result _ within c.loop-row.invariant
-    (given_back (Each g.D.Disk.state (Empties c.args.beat.now)) row c.deref_mut.result.now c.empty_all.new.disks lent many c.empty_all.ensures.empties)
-    (given_back (λ olds news. All (λ disk. IsEmpty (g.D.Disk.state disk)) news) row c.deref_mut.result.now c.empty_all.new.disks lent many c.in_ok-empty_all.ensures.empty)
+    record {
+      done = one_done _ _ c.loop-row.row-index c.args.rows.now c.loop-row.rows c.row-item.result _ within c.loop-row.invariant.done
+          (given_back (Each g.D.Disk.state (Empties c.args.beat.now)) row c.deref_mut.result.now c.empty_all.new.disks lent many c.empty_all.ensures.empties)
+          (given_back (λ olds news. All (λ disk. IsEmpty (g.D.Disk.state disk)) news) row c.deref_mut.result.now c.empty_all.new.disks lent many c.in_ok-empty_all.ensures.empty);
+      calm =
+          map-set_same (λ r. map (λ x. (g.D.Disk.state x).faults) r.items) c.loop-row.rows c.loop-row.row-index (with_items row c.empty_all.new.disks) c.row-item.result
+          (given_back (NoneRose g.D.Disk.state) row c.deref_mut.result.now c.empty_all.new.disks lent many c.in_ok-empty_all.ensures.calm)
+          ∙ c.loop-row.invariant.calm;
+    }
 
 pub returns-in_err-empty_all-clause-empties : goal.returns-in_err-empty_all-clause-empties
 returns-in_err-empty_all-clause-empties g c =
@@ -23,8 +31,8 @@ returns-in_err-empty_all-clause-empties g c =
     let lent : c.deref_mut.result.now ≡ row.items = c.deref_mut.ensures.value in
     let within : c.loop-row.row-index < length c.loop-row.rows = first_of (omega arith, search rules, grind (arith, common_steps)) in
     record {
-      many = first_of (search rules, grind (arith, common_steps, c.loop-row.invariant.many));
-      each = next_steps _ _ c.loop-row.row-index c.args.rows.now c.loop-row.rows c.row-item.result _ within c.loop-row.invariant
+      many = first_of (search rules, grind (arith, common_steps, c.loop-row.invariant.done.many));
+      each = next_steps _ _ c.loop-row.row-index c.args.rows.now c.loop-row.rows c.row-item.result _ within c.loop-row.invariant.done
           (given_back (Each g.D.Disk.state (Empties c.args.beat.now)) row c.deref_mut.result.now c.empty_all.new.disks lent c.empty_all.ensures.empties.many c.empty_all.ensures.empties);
     }
 
@@ -33,5 +41,5 @@ returns-in_err-empty_all-clause-cause g c =
     let row = get_or c.loop-row.rows c.loop-row.row-index c.row-item.result in
     let lent : c.deref_mut.result.now ≡ row.items = c.deref_mut.ensures.value in
     let within : c.loop-row.row-index < length c.loop-row.rows = first_of (omega arith, search rules, grind (arith, common_steps)) in
-    on_err c.from_residual.result (row_rose_here g.D.Disk.state _ _ c.loop-row.row-index c.args.rows.now c.loop-row.rows c.row-item.result _ within c.loop-row.invariant
+    on_err c.from_residual.result (row_rose_here g.D.Disk.state _ _ c.loop-row.row-index c.args.rows.now c.loop-row.rows c.row-item.result _ within c.loop-row.invariant.done
     (given_back (OneRose g.D.Disk.state) row c.deref_mut.result.now c.empty_all.new.disks lent c.empty_all.ensures.empties.many c.in_err-empty_all.ensures.cause))

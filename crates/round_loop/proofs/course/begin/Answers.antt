@@ -17,7 +17,7 @@ returns-then-counts-clause-course g c =
       refl,
       begins_at g.D.Disk.state g.D.M.Meter.faults rules run.job.now run.index.now disks.lawful run.split.now (split_is run.job.now run.split.now c.requires.run.of_job) from new c.requires.store
           end.result.outcome end.result.changed end.result.claims end.result.admitted
-          (record { store = end.ensures.store; keeps = end.ensures.keeps; meters = end.ensures.meters; beat = end.ensures.beat; through = end.ensures.through; few = end.ensures.few; cause = end.ensures.cause; sound = end.ensures.sound; damaged = end.ensures.damaged; epochs = end.ensures.epochs; made = end.ensures.round })
+          (record { store = end.ensures.store; keeps = end.ensures.keeps; meters = end.ensures.meters; beat = end.ensures.beat; through = end.ensures.through; few = end.ensures.few; cause = end.ensures.cause; calm = end.ensures.calm; sound = end.ensures.sound; damaged = end.ensures.damaged; epochs = end.ensures.epochs; made = end.ensures.round })
           1 (ap (λ (b : Bool). if b then 1 else 0) (sym counts)) c.in-Ok.ensures.done,
     )
 
@@ -33,7 +33,7 @@ returns-else-counts-clause-course g c =
       refl,
       begins_at g.D.Disk.state g.D.M.Meter.faults rules run.job.now run.index.now disks.lawful run.split.now (split_is run.job.now run.split.now c.requires.run.of_job) from new c.requires.store
           end.result.outcome end.result.changed end.result.claims end.result.admitted
-          (record { store = end.ensures.store; keeps = end.ensures.keeps; meters = end.ensures.meters; beat = end.ensures.beat; through = end.ensures.through; few = end.ensures.few; cause = end.ensures.cause; sound = end.ensures.sound; damaged = end.ensures.damaged; epochs = end.ensures.epochs; made = end.ensures.round })
+          (record { store = end.ensures.store; keeps = end.ensures.keeps; meters = end.ensures.meters; beat = end.ensures.beat; through = end.ensures.through; few = end.ensures.few; cause = end.ensures.cause; calm = end.ensures.calm; sound = end.ensures.sound; damaged = end.ensures.damaged; epochs = end.ensures.epochs; made = end.ensures.round })
           0 (ap (λ (b : Bool). if b then 1 else 0) (sym counts)) c.in-Ok.ensures.done,
     )
 
@@ -47,5 +47,5 @@ returns-in-Err-clause-course g c =
     let new : Moment g.row.D.Denot g.row.D-M.Denot = moment end.new.store end.new.meters.items end.new.seat.view end.new.beat in
     begins_not g.D.Disk.state g.D.M.Meter.faults rules run.job.now run.index.now disks.lawful run.split.now (split_is run.job.now run.split.now c.requires.run.of_job) from new c.requires.store
     end.result.outcome end.result.changed end.result.claims end.result.admitted
-    (record { store = end.ensures.store; keeps = end.ensures.keeps; meters = end.ensures.meters; beat = end.ensures.beat; through = end.ensures.through; few = end.ensures.few; cause = end.ensures.cause; sound = end.ensures.sound; damaged = end.ensures.damaged; epochs = end.ensures.epochs; made = end.ensures.round })
+    (record { store = end.ensures.store; keeps = end.ensures.keeps; meters = end.ensures.meters; beat = end.ensures.beat; through = end.ensures.through; few = end.ensures.few; cause = end.ensures.cause; calm = end.ensures.calm; sound = end.ensures.sound; damaged = end.ensures.damaged; epochs = end.ensures.epochs; made = end.ensures.round })
     c.in-Err.fault c.in-Err.ensures.fault

@@ -23,7 +23,7 @@ overflow_add-result-in-Ok g c =
     ] in
     let few = few_claims g.D.Disk.state g.D.M.Meter.faults rules run.job.now run.index.now disks.lawful c.args.start run.split.now (split_is run.job.now run.split.now c.requires.run.of_job) c.args.so_far mid new c.requires.goes_on c.requires.few.0
     c.if-has_sent.changed_only only end.result.outcome end.result.changed end.result.claims end.result.admitted
-    (record { store = end.ensures.store; keeps = end.ensures.keeps; meters = end.ensures.meters; beat = end.ensures.beat; through = end.ensures.through; few = end.ensures.few; cause = end.ensures.cause; sound = end.ensures.sound; damaged = end.ensures.damaged; epochs = end.ensures.epochs; made = end.ensures.round })
+    (record { store = end.ensures.store; keeps = end.ensures.keeps; meters = end.ensures.meters; beat = end.ensures.beat; through = end.ensures.through; few = end.ensures.few; cause = end.ensures.cause; calm = end.ensures.calm; sound = end.ensures.sound; damaged = end.ensures.damaged; epochs = end.ensures.epochs; made = end.ensures.round })
     c.requires.run.job c.in-Ok.ensures.done in
     omega (arith, few, c.requires.few.2)
 
@@ -43,7 +43,7 @@ returns-in-Ok-clause-course g c = λ from at.
       refl,
       goes_to g.D.Disk.state g.D.M.Meter.faults rules run.job.now run.index.now disks.lawful c.args.start run.split.now (split_is run.job.now run.split.now c.requires.run.of_job) c.args.so_far mid new c.requires.goes_on c.requires.few.0
           c.if-has_sent.changed_only only end.result.outcome end.result.changed end.result.claims end.result.admitted
-          (record { store = end.ensures.store; keeps = end.ensures.keeps; meters = end.ensures.meters; beat = end.ensures.beat; through = end.ensures.through; few = end.ensures.few; cause = end.ensures.cause; sound = end.ensures.sound; damaged = end.ensures.damaged; epochs = end.ensures.epochs; made = end.ensures.round })
+          (record { store = end.ensures.store; keeps = end.ensures.keeps; meters = end.ensures.meters; beat = end.ensures.beat; through = end.ensures.through; few = end.ensures.few; cause = end.ensures.cause; calm = end.ensures.calm; sound = end.ensures.sound; damaged = end.ensures.damaged; epochs = end.ensures.epochs; made = end.ensures.round })
           from at c.in-Ok.ensures.done,
     )
 
@@ -62,5 +62,5 @@ returns-in-Err-clause-course g c = λ from at.
     ] in
     goes_not g.D.Disk.state g.D.M.Meter.faults rules run.job.now run.index.now disks.lawful c.args.start run.split.now (split_is run.job.now run.split.now c.requires.run.of_job) c.args.so_far mid new c.requires.goes_on c.requires.few.0
     c.if-has_sent.changed_only only end.result.outcome end.result.changed end.result.claims end.result.admitted
-    (record { store = end.ensures.store; keeps = end.ensures.keeps; meters = end.ensures.meters; beat = end.ensures.beat; through = end.ensures.through; few = end.ensures.few; cause = end.ensures.cause; sound = end.ensures.sound; damaged = end.ensures.damaged; epochs = end.ensures.epochs; made = end.ensures.round })
+    (record { store = end.ensures.store; keeps = end.ensures.keeps; meters = end.ensures.meters; beat = end.ensures.beat; through = end.ensures.through; few = end.ensures.few; cause = end.ensures.cause; calm = end.ensures.calm; sound = end.ensures.sound; damaged = end.ensures.damaged; epochs = end.ensures.epochs; made = end.ensures.round })
     from at c.in-Err.fault c.in-Err.ensures.fault

@@ -62,3 +62,24 @@ returns-in-At-clause-run g c =
       come = found g.D.Disk.state g.D.M.Meter.faults disks.lawful (g.P.VertexProgram.rules run.program.now) run.job.now run.index.now from ready c.in-At.round c.in-At.changed c.requires.between;
       epochs_are = refl;
     }))
+
+pub returns-in-Ok-clause-calm : goal.returns-in-Ok-clause-calm
+returns-in-Ok-clause-calm g c =
+    let run = c.args.run.now in
+    let from : Moment g.row.D.Denot g.row.D-M.Denot = moment c.args.store.now c.args.meters.now.items c.args.seat.now.view c.args.beat.now in
+    let new : Moment g.row.D.Denot g.row.D-M.Denot = moment c.begin.new.store c.begin.new.meters.items c.begin.new.seat.view c.begin.new.beat in
+    c.run_on.ensures.calm from
+    (subst (λ (s : Start). IsAt g.D.Disk.state g.D.M.Meter.faults (g.P.VertexProgram.rules run.program.now) run.job.now s run.index.now c.in-Ok.begun from new) (sym c.in-Fresh.is) c.in-Ok.ensures.course.1)
+
+pub returns-in-At-clause-calm : goal.returns-in-At-clause-calm
+returns-in-At-clause-calm g c =
+    let disks = g.met.D.Disk g.world.𝓛 g.world.𝓜 g.world.𝓡 ((λ s x. x), (λ x. x), (λ x. x), λ x. x) in
+    let run = c.args.run.now in
+    let from : Moment g.row.D.Denot g.row.D-M.Denot = moment c.args.store.now c.args.meters.now.items c.args.seat.now.view c.args.beat.now in
+    let ready : IsStore g.D.Disk.state (split_for run.job.now) from.beat from.store
+    = subst (λ s. IsStore g.D.Disk.state s c.args.beat.now c.args.store.now) (split_is run.job.now run.split.now c.requires.run.of_job) c.requires.store in
+    c.run_on-in-At.ensures.calm from (record {
+      epochs = [];
+      come = found g.D.Disk.state g.D.M.Meter.faults disks.lawful (g.P.VertexProgram.rules run.program.now) run.job.now run.index.now from ready c.in-At.round c.in-At.changed c.requires.between;
+      epochs_are = refl;
+    })

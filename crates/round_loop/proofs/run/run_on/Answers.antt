@@ -78,3 +78,6 @@ returns-clause-run g c = λ from small begun.
     let at = c.rounds.invariant.at from begun in
     ends_at g.D.Disk.state g.D.M.Meter.faults rules c.args.run.now.job.now c.args.start c.args.run.now.index.now (Unit {0}) so_far.round so_far.changed so_far.claims so_far.admitted from new at.epochs at.come tt
     (c.is_to_go_on.ensures.ends rules (sym c.rounds-rounds.ensures) c.rounds-test.false) (λ open_ended. c.is_last.ensures.last c.if-not-is_last.false (c.rounds-rounds.ensures ∙ open_ended))
+
+pub returns-clause-calm : goal.returns-clause-calm
+returns-clause-calm g c = λ from begun. ((c.rounds.invariant.at from begun).come.calm tt).0

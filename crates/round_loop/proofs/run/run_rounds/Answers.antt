@@ -1,10 +1,11 @@
 -- The main meter is taken out and put back in its place.
-use Rattle.std.proofs.Common.{◌++◌, ◌∷◌, [], List, sym, subst}
+use Rattle.std.proofs.Common.{◌++◌, ◌∷◌, [], List, OnOk, sym, subst}
+use Rattle.ports.specs.Devices.{NoMeterRose}
 use Rattle.round_steps.specs.Going.{IsStore}
 use Rattle.round_loop.specs.Keeping.{moment}
 use Rattle.round_loop.specs.Run.{HasRun}
 use Rattle.partitioner.proofs.Made.{split_is}
-use Rattle.round_loop.proofs.Ending.{not_begun, run_with}
+use Rattle.round_loop.proofs.Ending.{not_begun, run_with, calm_with}
 use Rattle.round_loop.proofs.run.run_rounds.Goals as goal
 
 pub returns-in-Err-clause-run : goal.returns-in-Err-clause-run
@@ -27,3 +28,14 @@ returns-clause-run g c =
     = run_with g.D.Disk.state g.D.M.Meter.faults (g.P.VertexProgram.rules c.args.program.now) c.args.job.now c.args.start c.args.index.now c.args.store.now end.new.store olds news own c.args.seat.now.view end.new.seat.view c.args.beat.now end.new.beat end.result end.ensures.run in
     subst (λ (xs : List g.row.D-M.Denot). HasRun g.D.Disk.state g.D.M.Meter.faults (g.P.VertexProgram.rules c.args.program.now) c.args.job.now c.args.start c.args.index.now (moment c.args.store.now xs c.args.seat.now.view c.args.beat.now) (moment end.new.store c.put_last.new.list.items end.new.seat.view end.new.beat) end.result) (sym c.take_last-own.ensures.items)
     (subst (λ (xs : List g.row.D-M.Denot). HasRun g.D.Disk.state g.D.M.Meter.faults (g.P.VertexProgram.rules c.args.program.now) c.args.job.now c.args.start c.args.index.now (moment c.args.store.now (olds ++ own ∷ []) c.args.seat.now.view c.args.beat.now) (moment end.new.store xs end.new.seat.view end.new.beat) end.result) (sym c.put_last.ensures.items) run)
+
+pub returns-clause-calm : goal.returns-clause-calm
+returns-clause-calm g c =
+    let end = c.run_from-result in
+    let own = c.take_last-own.result in
+    let olds : List g.row.D-M.Denot = c.take_last-own.new.list.items in
+    let news : List g.row.D-M.Denot = end.new.meters.items in
+    let calm : OnOk end.result (NoMeterRose g.D.M.Meter.faults (olds ++ own ∷ []) (news ++ own ∷ []))
+    = calm_with g.D.Disk.state g.D.M.Meter.faults (g.P.VertexProgram.rules c.args.program.now) c.args.job.now c.args.start c.args.index.now c.args.store.now end.new.store olds news own c.args.seat.now.view end.new.seat.view c.args.beat.now end.new.beat end.result end.ensures.run end.ensures.calm in
+    subst (λ (xs : List g.row.D-M.Denot). OnOk end.result (NoMeterRose g.D.M.Meter.faults xs c.put_last.new.list.items)) (sym c.take_last-own.ensures.items)
+    (subst (λ (xs : List g.row.D-M.Denot). OnOk end.result (NoMeterRose g.D.M.Meter.faults (olds ++ own ∷ []) xs)) (sym c.put_last.ensures.items) calm)

@@ -1,5 +1,5 @@
 -- What is summed up, and then stored.
-use Rattle.std.proofs.Common.{◌≡◌, inl, inr, ◌+◌, ◌-◌, ℕ, true, false, ◌∙◌, ap, subst, arith}
+use Rattle.std.proofs.Common.{◌≡◌, inl, inr, ◌+◌, ℕ, true, false, map, ◌∙◌, ap, subst, arith}
 use Rattle.graph_model.specs.Rounds.{IsWithinGraph}
 use Rattle.store_reader.specs.declared.store.Outcome.TheVariants.{Done}
 use Rattle.round_steps.specs.Damage.{IsDamage}
@@ -109,3 +109,18 @@ returns-clause-round g c = λ edges stands.
     (omega arith) (ap (λ v. v.items) c.sum_round-summed.ensures.values)
     (c.store_round-applied.ensures.stored edges sums.numbers (subst (λ (n : ℕ). IsWithinGraph n edges) (omega arith) stands.has_edges.within) (merged_from g.D.Disk.state rules split sums.numbers c.sum_round-summed.new.crews.replicas.items c.as_slice.result.now c.sum_round-summed.new.store.spills.items c.as_slice-2.result.now c.as_slice.ensures.value c.as_slice-2.ensures.value sums.merged_are) sums.makes
     (values_for_apply g.D.Disk.state split c.args.round rules edges c.args.changed_only c.sum_round-summed.new.store.values.items c.args.store.now.values.items (ap (λ v. v.items) c.sum_round-summed.ensures.values) stands.values_stand))
+
+pub returns-then-not-is_done-clause-calm : goal.returns-then-not-is_done-clause-calm
+returns-then-not-is_done-clause-calm g c = λ done. absurd (c.is_done.ensures.stopped (let is : c.is_done.result ≡ false = grind arith in is) done)
+
+pub returns-clause-calm : goal.returns-clause-calm
+returns-clause-calm g c = λ done.
+    let summed = c.sum_round-summed.ensures.calm (c.is_done.ensures.done (let is : c.is_done.result ≡ true = grind arith in is)) in
+    let stored = c.store_round-applied.ensures.calm done in (
+      stored.0 ∙ summed.0,
+      record {
+        values = stored.1 ∙ ap (λ v. map (λ d. (g.D.Disk.state d).faults) v.items) c.sum_round-summed.ensures.values;
+        lanes = summed.1;
+        spills = summed.2;
+      },
+    )

@@ -31,3 +31,6 @@ returns-clause-stored g c = λ edges numbers within merged makes stand.
     (c.apply_all.ensures.round numbers (values t.rules t.split.vertices edges (t.round - 1))
     (stands_before g.D.Disk.state t c.args.values.now.items c.apply_all.new.values.items (c.apply_all.result.outcome ≡ Done) c.apply_all.result.changed edges numbers (omega arith) merged
     (c.values_have_room.ensures t.split.vertices (t.round - 1) edges (omega arith) within) stand))
+
+pub returns-clause-calm : goal.returns-clause-calm
+returns-clause-calm g c = λ done. let still = c.apply_all.ensures.cause.calm done in (still.1, still.0)

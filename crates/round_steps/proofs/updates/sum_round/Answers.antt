@@ -1,5 +1,5 @@
 -- The two epochs of a round, one after the other.
-use Rattle.std.proofs.Common.{◌≡◌, inl, inr, true, false, refl, sym, subst, arith}
+use Rattle.std.proofs.Common.{◌≡◌, inl, inr, true, false, refl, sym, ◌∙◌, subst, arith}
 use Rattle.phase_model.specs.Lanes.{all_updates}
 use Rattle.store_reader.specs.declared.store.Outcome.TheVariants.{Done}
 use Rattle.round_steps.specs.Standing.{HaveEdges}
@@ -97,3 +97,12 @@ returns-clause-sums g c = λ all_done edges stands.
           (rows_tell_still g.D.Disk.state c.args.beat.now c.args.store.now.lanes.items c.scatter_edges-scattered.new.lanes.items c.scatter_edges-scattered.ensures.lanes stands.lanes_tell)
           stands.spills_tell
     ]
+
+pub returns-then-not-is_done-clause-calm : goal.returns-then-not-is_done-clause-calm
+returns-then-not-is_done-clause-calm g c = λ done. absurd (c.is_done.ensures.stopped (let is : c.is_done.result ≡ false = grind arith in is) done)
+
+pub returns-clause-calm : goal.returns-clause-calm
+returns-clause-calm g c = λ done.
+    let scattered = c.scatter_edges-scattered.ensures.calm (c.is_done.ensures.done (let is : c.is_done.result ≡ true = grind arith in is)) in
+    let gathered = c.gather_updates-gathered.ensures.calm done in
+    (gathered.0 ∙ scattered.0, scattered.1, gathered.1)

@@ -1,5 +1,5 @@
 -- The parts of an epoch, put together.
-use Rattle.std.proofs.Common.{◌≡◌, ◌⊎◌, List, map, ap, sym, ◌∙◌, inl, inr, subst, arith, rules, ⊎_elim}
+use Rattle.std.proofs.Common.{◌≡◌, ◌⊎◌, List, map, ap, sym, ◌∙◌, inl, inr, subst, arith, ⊎_elim}
 use Rattle.std.specs.List.{range_with_len}
 use Rattle.std.specs.Prelude.{Vec}
 use Rattle.std.specs.Global.{Global}
@@ -9,7 +9,7 @@ use Rattle.store_reader.specs.declared.store.Outcome.{Outcome}
 use Rattle.store_reader.specs.declared.store.Outcome.TheVariants.{Done, Memory}
 use Rattle.store_reader.specs.Indexed.{lens_of}
 use Rattle.scatter_epoch.specs.Joining.{IsIndexOf}
-use Rattle.scatter_epoch.proofs.Assembling.{ready, tables, are_seats, rooms_still, number_still, made, counts_go_on, rows_go_on, within_places, each_scattered, wide, through, cause, stopped, have_scattered}
+use Rattle.scatter_epoch.proofs.Assembling.{ready, tables, are_seats, rooms_still, number_still, made, counts_go_on, rows_go_on, within_places, each_scattered, wide, through, cause, calm, stopped, have_scattered}
 use Rattle.scatter_epoch.proofs.Sending.{have_sent}
 use Rattle.scatter_epoch.proofs.epoch.scatter_all.Goals as goal
 
@@ -84,6 +84,13 @@ returns-clause-cause g c fault =
     (c.deal.ensures.numbers ∙ ap (range_with_len 0) c.requires.meters) c.args.seat.now.view.splits c.open_epoch.ensures.seats c.fork_scatter.new.desks.items (omega (arith, c.fork_scatter.ensures.many.0, c.fork_scatter.new.desks.ok.0, c.deal.new.crew.desks.ok.0)) c.fork_scatter.ensures.worked
     c.collect-scattered.new.crew.seats.items c.collect-scattered.new.meters.items c.collect-scattered.new.lanes.items c.collect-scattered.new.crew.rooms.items c.collect-scattered.ensures.dealt
     (record { outcome = c.index_where_done.result; claims = c.collect-scattered.result.claims; admitted = c.collect-scattered.result.admitted }) c.index_where_done.new.updates (ended_as_lowest c.collect-scattered.ensures.outcome c.index_where_done.ensures.outcome) fault
+
+pub returns-clause-calm : goal.returns-clause-calm
+returns-clause-calm g c is =
+    calm g.P.VertexProgram.rules g.D.Disk.state g.D.M.Meter.faults c.args.context.now c.deal.new.crew.desks.items c.open_epoch.new.seats.items c.args.meters.now.items c.args.lanes.now.items c.args.crew.now.rooms.items c.deal.ensures.dealt
+    (c.deal.ensures.numbers ∙ ap (range_with_len 0) c.requires.meters) c.args.seat.now.view.splits c.open_epoch.ensures.seats c.fork_scatter.new.desks.items (omega (arith, c.fork_scatter.ensures.many.0, c.fork_scatter.new.desks.ok.0, c.deal.new.crew.desks.ok.0)) c.fork_scatter.ensures.worked
+    c.collect-scattered.new.crew.seats.items c.collect-scattered.new.meters.items c.collect-scattered.new.lanes.items c.collect-scattered.new.crew.rooms.items c.collect-scattered.ensures.dealt
+    (record { outcome = c.index_where_done.result; claims = c.collect-scattered.result.claims; admitted = c.collect-scattered.result.admitted }) c.index_where_done.new.updates (ended_as_lowest c.collect-scattered.ensures.outcome c.index_where_done.ensures.outcome) is
 
 pub returns-clause-stopped : goal.returns-clause-stopped
 returns-clause-stopped g c not =

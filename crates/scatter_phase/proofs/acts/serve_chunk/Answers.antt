@@ -33,7 +33,7 @@ returns-in-Chunk g c =
     let found = found_chunk g.D.Disk.state c.args.context.now.serving c.args.engine c.args.partition served.0 c.requires.may.engine_is below there (edge_layout c.args.context.now.serving.job.now.format) c.in-Chunk.count c.read_edges-served.new.into.items long served.2 in
     record {
       goes_on = goes_on_then g.D.Disk.state g.D.M.Meter.faults c.args.context.now.beat.now c.args.desk.now _ c.scatter_chunk.new.desk
-          (record { worker = refl; room = λ job is. record { outgoing = is.outgoing; of_job = is.of_job; size = is.size; edges = c.in-Chunk.ensures.rooms.1 ∙ is.edges; bytes = c.in-Chunk.ensures.rooms.0 ∙ is.bytes; now = is.now; before = is.before; changed = is.changed }; reads = c.in-Chunk.ensures.later; lanes = stays g.D.Disk.state c.args.context.now.beat.now c.args.desk.now.lanes.items; caused = λ is. inl is })
+          (record { worker = refl; room = λ job is. record { outgoing = is.outgoing; of_job = is.of_job; size = is.size; edges = c.in-Chunk.ensures.rooms.1 ∙ is.edges; bytes = c.in-Chunk.ensures.rooms.0 ∙ is.bytes; now = is.now; before = is.before; changed = is.changed }; reads = c.in-Chunk.ensures.later; lanes = stays g.D.Disk.state c.args.context.now.beat.now c.args.desk.now.lanes.items; caused = λ is. inl is; calm = λ is. (is, c.in-Chunk.ensures.calm, refl) })
           c.scatter_chunk.ensures.goes_on;
       table_is = ap (λ s. s.table) seat ∙ c.in-Chunk.ensures.table;
       call = claimed_at g.P.VertexProgram.rules g.D.Disk.state c.args.context.now _ c.scatter_chunk.new.desk edges _ cursor served.0 has c.requires.may.at.found found reads c.args.desk.now.seat.view c.scatter_chunk.new.desk.seat.view c.scatter_chunk.result c.scatter_chunk.ensures.sent (record { place = served.0; call = call; may = served.1.given });
@@ -45,7 +45,7 @@ pub returns-in-Exhausted : goal.returns-in-Exhausted
 returns-in-Exhausted g c =
     let at = c.requires.may.at in
     record {
-      goes_on = record { worker = refl; room = λ job is. record { outgoing = is.outgoing; of_job = is.of_job; size = is.size; edges = c.in-Exhausted.ensures.rooms.1 ∙ is.edges; bytes = c.in-Exhausted.ensures.rooms.0 ∙ is.bytes; now = is.now; before = is.before; changed = is.changed }; reads = c.in-Exhausted.ensures.later; lanes = stays g.D.Disk.state c.args.context.now.beat.now c.args.desk.now.lanes.items; caused = λ is. inl is };
+      goes_on = record { worker = refl; room = λ job is. record { outgoing = is.outgoing; of_job = is.of_job; size = is.size; edges = c.in-Exhausted.ensures.rooms.1 ∙ is.edges; bytes = c.in-Exhausted.ensures.rooms.0 ∙ is.bytes; now = is.now; before = is.before; changed = is.changed }; reads = c.in-Exhausted.ensures.later; lanes = stays g.D.Disk.state c.args.context.now.beat.now c.args.desk.now.lanes.items; caused = λ is. inl is; calm = λ is. (is, c.in-Exhausted.ensures.calm, refl) };
       table_is = c.in-Exhausted.ensures.table;
       call = c.in-Exhausted.ensures.served.call;
       at = λ ne. subst (DeskHolds g.P.VertexProgram.rules g.D.Disk.state c.args.context.now _) (sym (taken_here-none (cursor_of c.args.engine c.args.partition) c.args.desk.now.seat.view c.read_edges-served.new.seat.view c.in-Exhausted.ensures.served.call))
@@ -67,7 +67,7 @@ returns-in-DiskFault g c =
     let there = taken_of (lens_of c.args.context.now.serving.index.now) c.args.desk.now.seat.view (cursor_of c.args.engine c.args.partition) served.0 c.requires.may.ready served.1.given in
     let at = c.requires.may.at in
     record {
-      goes_on = record { worker = refl; room = λ job is. record { outgoing = is.outgoing; of_job = is.of_job; size = is.size; edges = c.in-DiskFault.ensures.rooms.1 ∙ is.edges; bytes = c.in-DiskFault.ensures.rooms.0 ∙ is.bytes; now = is.now; before = is.before; changed = is.changed }; reads = c.in-DiskFault.ensures.later; lanes = stays g.D.Disk.state c.args.context.now.beat.now c.args.desk.now.lanes.items; caused = λ is. inr (inl served.2) };
+      goes_on = record { worker = refl; room = λ job is. record { outgoing = is.outgoing; of_job = is.of_job; size = is.size; edges = c.in-DiskFault.ensures.rooms.1 ∙ is.edges; bytes = c.in-DiskFault.ensures.rooms.0 ∙ is.bytes; now = is.now; before = is.before; changed = is.changed }; reads = c.in-DiskFault.ensures.later; lanes = stays g.D.Disk.state c.args.context.now.beat.now c.args.desk.now.lanes.items; caused = λ is. inr (inl served.2); calm = λ is. absurd cc };
       table_is = c.in-DiskFault.ensures.table;
       call = record { place = served.0; call = served.1.call; may = served.1.given };
       at = λ ne. absurd (ne refl);
@@ -99,7 +99,7 @@ returns-in-Damaged g c =
     } in
     let at = c.requires.may.at in
     record {
-      goes_on = record { worker = refl; room = λ job is. record { outgoing = is.outgoing; of_job = is.of_job; size = is.size; edges = c.in-Damaged.ensures.rooms.1 ∙ is.edges; bytes = c.in-Damaged.ensures.rooms.0 ∙ is.bytes; now = is.now; before = is.before; changed = is.changed }; reads = c.in-Damaged.ensures.later; lanes = stays g.D.Disk.state c.args.context.now.beat.now c.args.desk.now.lanes.items; caused = λ is. absurd cc };
+      goes_on = record { worker = refl; room = λ job is. record { outgoing = is.outgoing; of_job = is.of_job; size = is.size; edges = c.in-Damaged.ensures.rooms.1 ∙ is.edges; bytes = c.in-Damaged.ensures.rooms.0 ∙ is.bytes; now = is.now; before = is.before; changed = is.changed }; reads = c.in-Damaged.ensures.later; lanes = stays g.D.Disk.state c.args.context.now.beat.now c.args.desk.now.lanes.items; caused = λ is. absurd cc; calm = λ is. absurd cc };
       table_is = c.in-Damaged.ensures.table;
       call = record { place = served.0; call = served.1.call; may = served.1.given };
       at = λ ne. absurd (ne refl);

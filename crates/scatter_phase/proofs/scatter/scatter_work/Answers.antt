@@ -36,7 +36,7 @@ pub returns-then-worked-clause-lanes : goal.returns-then-worked-clause-lanes
 returns-then-worked-clause-lanes g c = goes_on g.D.Disk.state c.args.context.now.beat.now c.args.desk.now.lanes.items c.work_through-worked.new.desk.lanes.items c.finish.new.desk.lanes.items (goes_on g.D.Disk.state c.args.context.now.beat.now c.args.desk.now.lanes.items c.begin.new.desk.lanes.items c.work_through-worked.new.desk.lanes.items c.begin.ensures.lanes c.work_through-worked.ensures.goes_on.lanes) c.finish.ensures.goes_on.lanes
 
 pub returns-then-worked-clause-cause : goal.returns-then-worked-clause-cause
-returns-then-worked-clause-cause g c = cause_of g.D.Disk.state g.D.M.Meter.faults c.args.context.now.beat.now c.args.desk.now c.begin.new.desk c.finish.new.desk c.begin.ensures.same.1 c.begin.ensures.lanes c.in-Ok.ensures.holds.fit.done
+returns-then-worked-clause-cause g c = cause_of g.D.Disk.state g.D.M.Meter.faults c.args.context.now.beat.now c.args.desk.now c.begin.new.desk c.finish.new.desk c.begin.ensures.same.1 c.begin.ensures.lanes c.in-Ok.ensures.calm c.in-Ok.ensures.holds.fit.done
     (goes_on_then g.D.Disk.state g.D.M.Meter.faults c.args.context.now.beat.now c.begin.new.desk _ c.finish.new.desk (noted g.D.Disk.state g.D.M.Meter.faults c.args.context.now.beat.now c.begin.new.desk c.work_through-worked.new.desk _ refl refl refl refl refl c.work_through-worked.ensures.goes_on) c.finish.ensures.goes_on)
 
 pub returns-else-worked-clause-lanes : goal.returns-else-worked-clause-lanes
@@ -51,5 +51,5 @@ returns-else-worked-clause-few g c =
     few_noted c.work_through-worked.new.desk.places.items c.work_through-worked.result.claims (omega (arith, few, c.work_through-worked.ensures.worked.claims_are, ap length (chunks_of c.begin.new.desk.seat.view c.work_through-worked.new.desk.seat.view c.work_through-worked.ensures.worked.calls (ap (λ s. s.view.story) c.begin.ensures.seat.0 ∙ c.requires.story) c.work_through-worked.ensures.worked.grown)))
 
 pub returns-else-worked-clause-cause : goal.returns-else-worked-clause-cause
-returns-else-worked-clause-cause g c = cause_of g.D.Disk.state g.D.M.Meter.faults c.args.context.now.beat.now c.args.desk.now c.begin.new.desk _ c.begin.ensures.same.1 c.begin.ensures.lanes c.in-Ok.ensures.holds.fit.done
+returns-else-worked-clause-cause g c = cause_of g.D.Disk.state g.D.M.Meter.faults c.args.context.now.beat.now c.args.desk.now c.begin.new.desk _ c.begin.ensures.same.1 c.begin.ensures.lanes c.in-Ok.ensures.calm c.in-Ok.ensures.holds.fit.done
     (noted g.D.Disk.state g.D.M.Meter.faults c.args.context.now.beat.now c.begin.new.desk c.work_through-worked.new.desk _ refl refl refl refl refl c.work_through-worked.ensures.goes_on)

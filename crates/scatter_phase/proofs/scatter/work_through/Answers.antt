@@ -12,7 +12,7 @@ work-requires-clause-acts g c = record {
   proposes = λ p q k r may post. search rules;
   may_leave = λ p k may. (may, grind serving);
   leaves = λ p q k r may post. search rules;
-  stays = λ desk. record { worker = refl; room = λ job is. is; reads = omega arith; lanes = stays g.D.Disk.state c.args.context.now.beat.now desk.lanes.items; caused = λ is. inl is };
+  stays = λ desk. record { worker = refl; room = λ job is. is; reads = omega arith; lanes = stays g.D.Disk.state c.args.context.now.beat.now desk.lanes.items; caused = λ is. inl is; calm = λ is. (is, refl, refl) };
   joins = λ a b d x y. goes_on_then g.D.Disk.state g.D.M.Meter.faults c.args.context.now.beat.now a b d x y;
   enters = λ desk k chunks below rests none. rests;
 }

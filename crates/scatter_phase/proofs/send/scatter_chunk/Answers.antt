@@ -21,6 +21,7 @@ returns-in-Ok-send_chunk-clause-goes_on g c =
       reads = c.load_values.ensures.cause.later;
       lanes = sends.go_on;
       caused = λ is. inl is;
+      calm = λ is. (is, c.in-Ok.ensures.cause.calm, c.in-Ok-send_chunk.ensures.calm);
     }
 
 pub returns-in-Ok-send_chunk-clause-sent : goal.returns-in-Ok-send_chunk-clause-sent
@@ -50,6 +51,7 @@ returns-in-Err-DiskFault-clause-goes_on g c =
       reads = c.load_values.ensures.cause.later;
       lanes = stops.go_on;
       caused = λ is. inr (inr (c.in-Err-DiskFault.ensures.cause c.in-Err-DiskFault.field-0-is));
+      calm = λ is. absurd cc;
     }
 
 pub returns-in-Err-DiskFault-clause-sent : goal.returns-in-Err-DiskFault-clause-sent
@@ -71,6 +73,7 @@ returns-in-Err-Memory-clause-goes_on g c =
       reads = c.load_values.ensures.cause.later;
       lanes = stops.go_on;
       caused = λ is. absurd cc;
+      calm = λ is. absurd cc;
     }
 
 pub returns-in-Err-Memory-clause-sent : goal.returns-in-Err-Memory-clause-sent

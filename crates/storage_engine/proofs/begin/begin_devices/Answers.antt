@@ -59,3 +59,12 @@ returns-clause-blank g c =
     always : {T E P : Type 0} (r : Result T E) → P → OnOk r P
     always (Ok x) p = p
     always (Err e) p = tt
+
+pub returns-clause-calm : goal.returns-clause-calm
+returns-clause-calm g c =
+    on_ok_map c.write_marks.result
+    (λ last. (
+      last ∙ c.in_ok-write_fronts.ensures.calm ∙ c.in_ok-clear_all.ensures.calm,
+      c.in_ok-write_all_zeros.ensures.calm ∙ c.in_ok-clear_all-2.ensures.calm,
+    ))
+    c.write_marks.ensures.calm

@@ -24,3 +24,4 @@ loop-e-preserved g c =
     one_done g.D.Disk.state (Step IsShutGraph c.args.beat.now) (λ e old new. HoldsExactly [] new) c.loop-e.e c.args.disks.now c.loop-e.disks c.index-disks-e.result c.clear.new.disk within c.loop-e.invariant
     (each_set g.D.Disk.state IsShutGraph c.args.beat.now c.args.disks.now c.loop-e.disks c.loop-e.e c.index-disks-e.result c.clear.new.disk disks.lawful within c.loop-e.invariant.steps c.clear.ensures.step)
     c.in_ok-clear.ensures.emptied
+    c.in_ok-clear.ensures.cause.calm

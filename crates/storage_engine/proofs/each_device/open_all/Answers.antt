@@ -48,3 +48,4 @@ loop-e-preserved g c =
     (each_set_first g.D.Disk.state (Opens c.args.beat.now) c.args.disks.now c.loop-e.disks c.loop-e.e c.index-disks-e.result c.open_gate.new.disk within c.loop-e.invariant.steps
     (λ d. c.loop-e.invariant.rest c.loop-e.e d (omega arith)) c.open_gate.ensures.opens)
     c.in_ok-open_gate.ensures.opened
+    c.in_ok-open_gate.ensures.cause.calm

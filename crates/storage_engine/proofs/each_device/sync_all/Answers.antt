@@ -23,3 +23,4 @@ loop-e-preserved g c =
     one_done g.D.Disk.state (Step IsClosedFront c.args.beat.now) (λ e old new. Synced old new) c.loop-e.e c.args.disks.now c.loop-e.disks c.index-disks-e.result c.sync_closed.new.disk within c.loop-e.invariant
     (each_set g.D.Disk.state IsClosedFront c.args.beat.now c.args.disks.now c.loop-e.disks c.loop-e.e c.index-disks-e.result c.sync_closed.new.disk disks.lawful within c.loop-e.invariant.steps c.sync_closed.ensures.step)
     c.in_ok-sync_closed.ensures.synced
+    c.in_ok-sync_closed.ensures.cause.calm

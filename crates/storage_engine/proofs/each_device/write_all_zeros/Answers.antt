@@ -25,3 +25,4 @@ loop-e-preserved g c =
     one_done g.D.Disk.state (Step Anything c.args.beat.now) (λ e old new. HoldsExactly (replicate (Slots.device_size (own_in c.args.split.now e)) 0) new) c.loop-e.e c.args.disks.now c.loop-e.disks c.index-disks-e.result c.write_zeros.new.disk within c.loop-e.invariant
     (each_set g.D.Disk.state Anything c.args.beat.now c.args.disks.now c.loop-e.disks c.loop-e.e c.index-disks-e.result c.write_zeros.new.disk disks.lawful within c.loop-e.invariant.steps c.write_zeros.ensures.step)
     (subst (λ n. HoldsExactly (replicate n 0) (g.D.Disk.state c.write_zeros.new.disk)) (c.device_size-size.ensures ∙ ap Slots.device_size c.own.ensures) c.in_ok-write_zeros.ensures.zeros)
+    c.in_ok-write_zeros.ensures.cause.calm

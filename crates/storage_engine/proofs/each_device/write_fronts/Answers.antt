@@ -24,3 +24,4 @@ loop-e-preserved g c =
     one_done g.D.Disk.state (Step IsShutGraph c.args.beat.now) (λ e old new. HoldsExactly (front 0 c.args.job.now e) new) c.loop-e.e c.args.disks.now c.loop-e.disks c.index-disks-e.result c.write_front.new.disk within c.loop-e.invariant
     (each_set g.D.Disk.state IsShutGraph c.args.beat.now c.args.disks.now c.loop-e.disks c.loop-e.e c.index-disks-e.result c.write_front.new.disk disks.lawful within c.loop-e.invariant.steps c.write_front.ensures.step)
     (subst (λ bytes. HoldsExactly bytes (g.D.Disk.state c.write_front.new.disk)) c.front_of.ensures c.in_ok-write_front.ensures.written)
+    c.in_ok-write_front.ensures.cause.calm

@@ -24,3 +24,4 @@ loop-e-preserved g c =
     one_done g.D.Disk.state (Step IsClosedFront c.args.beat.now) (λ e old new. Appended (Heads.MARK ∷ []) old new) c.loop-e.e c.args.disks.now c.loop-e.disks c.index-disks-e.result c.write_mark.new.disk within c.loop-e.invariant
     (each_set g.D.Disk.state IsClosedFront c.args.beat.now c.args.disks.now c.loop-e.disks c.loop-e.e c.index-disks-e.result c.write_mark.new.disk disks.lawful within c.loop-e.invariant.steps c.write_mark.ensures.step)
     c.in_ok-write_mark.ensures.appended
+    c.in_ok-write_mark.ensures.cause.calm

@@ -80,3 +80,9 @@ flush-requires-clause-making g c = λ _ _.
     let maker = c.make_chunks.new.maker in
     subst (λ (j : Job). HasRoomFor g.D.Disk.state j maker.buffers maker.placer maker.index c.make_chunks.new.graphs []) (sym c.make_chunks.ensures.job)
     (made.0, made.2, subst (AreFew c.in-Ok-new.maker.job) (sym (append-nil made.0)) made.3)
+
+pub returns-in-Ok-flush-clause-calm : goal.returns-in-Ok-flush-clause-calm
+returns-in-Ok-flush-clause-calm g c =
+    let begun = c.in_default-begin_devices.ensures.calm in
+    let given = c.in_default-make_chunks.ensures.calm in
+    (given.0, c.in-Ok-flush.ensures.calm ∙ given.1 ∙ begun.0, begun.1)

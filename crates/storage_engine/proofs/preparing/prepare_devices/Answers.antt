@@ -1,4 +1,4 @@
-use Rattle.std.proofs.Common.{Ok, Err, sym, subst, arith}
+use Rattle.std.proofs.Common.{◌∙◌, Ok, Err, sym, subst, arith}
 use Rattle.ports.specs.Faults.{Rose}
 use Rattle.ports.specs.Devices.{Each}
 use Rattle.store_model.proofs.Growing.{length-graph}
@@ -27,7 +27,8 @@ returns-in-Ok-open_all-clause-prepares g c =
     let opens = subst (λ n. Each g.D.Disk.state (Opens n) c.make_closed.new.graphs c.open_all.new.disks) c.next.ensures c.open_all.ensures.opens in
     subst (λ n. Prepares g.D.Disk.state c.args.job.now (g.S.Source.left c.args.source.now) (g.S.Source.left c.make_closed.new.source) c.args.beat.now n (Rose (g.S.Source.faults c.args.source.now) (g.S.Source.faults c.make_closed.new.source)) c.args.graphs.now c.open_all.new.disks c.args.values.now c.make_closed.new.values (Ok c.in-Ok.index)) (sym c.next.ensures)
     (prepared_second g.D.Disk.state c.args.job.now (g.S.Source.left c.args.source.now) (g.S.Source.left c.make_closed.new.source) c.args.beat.now (Rose (g.S.Source.faults c.args.source.now) (g.S.Source.faults c.make_closed.new.source)) c.args.graphs.now c.make_closed.new.graphs c.open_all.new.disks c.args.values.now c.make_closed.new.values made.0 c.in-Ok.index disks.lawful
-    c.requires.graphs c.requires.values c.requires.graph_beats c.requires.value_beats c.make_closed.ensures.graphs c.make_closed.ensures.values made.1 made.2 c.in-Ok.ensures.blank opens c.in-Ok-open_all.ensures.done)
+    c.requires.graphs c.requires.values c.requires.graph_beats c.requires.value_beats c.make_closed.ensures.graphs c.make_closed.ensures.values made.1 made.2 c.in-Ok.ensures.blank opens c.in-Ok-open_all.ensures.done
+    (c.in-Ok-open_all.ensures.calm ∙ c.in-Ok.ensures.calm.1, c.in-Ok.ensures.calm.2))
 
 pub returns-in-Err-open_all-clause-prepares : goal.returns-in-Err-open_all-clause-prepares
 returns-in-Err-open_all-clause-prepares g c =

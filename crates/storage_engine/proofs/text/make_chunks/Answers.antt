@@ -13,6 +13,7 @@ pieces-init g c =
     let disks = g.met.D.Disk g.world.𝓛 g.world.𝓜 g.world.𝓡 ((λ s x. x), (λ x. x), (λ x. x), λ x. x) in
     record {
       later = omega arith;
+      calm = (refl, refl);
       job = refl;
       steps = each_same g.D.Disk.state IsClosedFront c.args.beat.now c.args.graphs.now disks.lawful;
       front = taken_none g.D.Disk.state c.args.maker.now.job (g.S.Source.left c.args.source.now) c.new-reader.result c.args.maker.now.buffers c.args.maker.now.placer c.args.maker.now.index c.args.graphs.now
@@ -62,6 +63,7 @@ pieces-preserved g c =
     let feeds = c.in_default-feed.ensures.read job.vertices both limit front.fed front.has_read in
     record {
       later = omega (arith, c.in-Ok.ensures.cause.later, c.pieces.invariant.later);
+      calm = (c.in-Ok.ensures.cause.calm ∙ c.pieces.invariant.calm.0, c.in_default-add_all.ensures.calm ∙ c.pieces.invariant.calm.1);
       job = c.add_all.ensures.job ∙ c.pieces.invariant.job;
       steps = each_then g.D.Disk.state IsClosedFront c.args.beat.now c.args.graphs.now c.pieces.graphs c.add_all.new.graphs disks.lawful c.pieces.invariant.steps c.add_all.ensures.steps;
       front = taken_more state job _ _ _ _ c.feed.new.self _ c.in-Ok.count c.read.new.into _ c.clear.new.self.items c.feed.new.into.items c.pieces.maker.buffers c.add_all.new.self.buffers c.pieces.maker.placer c.add_all.new.self.placer c.pieces.maker.index c.add_all.new.self.index c.pieces.graphs c.add_all.new.graphs
@@ -139,3 +141,6 @@ add_all-requires-2-clause-making g c = λ _ _.
     let front = c.pieces.invariant.front in
     room_for_end state job c.pieces.maker.job _ _ _ _ c.clear-2.new.self.items c.finish.new.into.items c.deref-2.result.now c.pieces.maker.buffers c.pieces.maker.placer c.pieces.maker.index c.pieces.graphs
     c.pieces.invariant.job c.clear-2.ensures.items c.deref-2.ensures.value front (c.in_default-finish.ensures.read job.vertices both limit front.fed front.has_read)
+
+pub returns-clause-calm : goal.returns-clause-calm
+returns-clause-calm g c = (c.in-Ok.ensures.cause.calm ∙ c.pieces.invariant.calm.0, c.in_default-add_all-2.ensures.calm ∙ c.pieces.invariant.calm.1)

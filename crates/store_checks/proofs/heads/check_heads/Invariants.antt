@@ -8,4 +8,5 @@ invariant-loop-e g l = record {
   few : l.e ≤ 256;
   sound : (told : List (List ℕ)) → Tell g.D.Disk.state l.graphs told → first_over (λ e. head_fault e (head_of told e)) l.e ≡ None;
   later : g.D.M.Meter.faults l.fn.meter ≤ g.D.M.Meter.faults l.meter;
+  calm : g.D.M.Meter.faults l.meter ≡ g.D.M.Meter.faults l.fn.meter;
 }

@@ -7,4 +7,5 @@ abbrev pub invariant-loop-e : goal.invariant-loop-e
 invariant-loop-e g l = record {
   sound : (told : List (List ℕ)) → Tell g.D.Disk.state l.graphs told → first_over (λ e. other_fault l.first e (head_of told e)) l.e ≡ None;
   later : g.D.M.Meter.faults l.fn.meter ≤ g.D.M.Meter.faults l.meter;
+  calm : g.D.M.Meter.faults l.meter ≡ g.D.M.Meter.faults l.fn.meter;
 }

@@ -1,4 +1,4 @@
-use Rattle.std.proofs.Common.{◌≤◌, ℕ, List}
+use Rattle.std.proofs.Common.{◌≡◌, ◌≤◌, ℕ, List}
 use Rattle.chunk_file.specs.declared.index.TheConstants.{MOST_PLACES}
 use Rattle.chunk_file.specs.Places.{total_of}
 use Rattle.store_checks.specs.Causes.{Tell}
@@ -10,4 +10,5 @@ invariant-loop-e g l = record {
   few : total_of l.index ≤ MOST_PLACES;
   scanned : (told : List (List ℕ)) → Tell g.D.Disk.state l.graphs told → ScannedBelow l.job l.split told l.e l.index;
   later : g.D.M.Meter.faults l.fn.meter ≤ g.D.M.Meter.faults l.meter;
+  calm : g.D.M.Meter.faults l.meter ≡ g.D.M.Meter.faults l.fn.meter;
 }

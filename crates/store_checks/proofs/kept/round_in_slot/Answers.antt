@@ -1,4 +1,4 @@
-use Rattle.std.proofs.Common.{◌≡◌, ◌<◌, ◌+◌, ◌%◌, ℕ, List, length, Some, subst, sym, arith}
+use Rattle.std.proofs.Common.{◌≡◌, ◌∙◌, ◌<◌, ◌+◌, ◌%◌, ℕ, List, length, Some, subst, sym, arith}
 use Rattle.ports.specs.Faults.{Rose}
 use Rattle.store_model.specs.Kept.{device}
 use Rattle.store_model.specs.Damage.{slot_fault}
@@ -40,6 +40,7 @@ loop-e-init g c =
       slot = within.0;
       within = within.1;
       later = c.in-Ok-Some.ensures.later;
+      calm = c.in-Ok-Some.ensures.calm;
     }
 
 pub returns-in-Err-read_slot-clause-cause : goal.returns-in-Err-read_slot-clause-cause
@@ -80,6 +81,7 @@ loop-e-preserved g c =
       slot = subst (λ r. r % 2 ≡ c.args.slot) (sym c.in-Some.ensures.round) c.loop-e.invariant.slot;
       within = omega (arith, c.in-Some.ensures.round, c.loop-e.invariant.within);
       later = omega (arith, c.loop-e.invariant.later, c.in-Ok.ensures.later);
+      calm = c.in-Ok.ensures.calm ∙ c.loop-e.invariant.calm;
     }
 
 pub returns-clause-finds : goal.returns-clause-finds

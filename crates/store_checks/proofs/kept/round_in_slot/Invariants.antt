@@ -13,4 +13,5 @@ invariant-loop-e g l = record {
   slot : slot_of l.so_far.round ≡ l.slot;
   within : l.so_far.round ≤ 1000000;
   later : g.D.M.Meter.faults l.fn.meter ≤ g.D.M.Meter.faults l.meter;
+  calm : g.D.M.Meter.faults l.meter ≡ g.D.M.Meter.faults l.fn.meter;
 }

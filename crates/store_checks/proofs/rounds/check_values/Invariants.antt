@@ -11,4 +11,5 @@ invariant-loop-e g l = record {
   exact : (k : ℕ) (d : _) → k < l.e → (g.D.Disk.state (get_or l.values k d)).size ≡ device_size (own_in l.split k);
   sound : (told : List (List ℕ)) → Tell g.D.Disk.state l.values told → first_over (λ e. device_fault (own_in l.split e) e (device told e)) l.e ≡ None;
   later : g.D.M.Meter.faults l.fn.meter ≤ g.D.M.Meter.faults l.meter;
+  calm : g.D.M.Meter.faults l.meter ≡ g.D.M.Meter.faults l.fn.meter;
 }

@@ -1,5 +1,6 @@
--- Every device is empty, or a count rose.
-use Rattle.std.proofs.Common.{◌<◌, length, slice_set, refl, arith}
+-- Every device is empty and no count rose, or one did.
+use Rattle.std.proofs.Common.{◌∙◌, ◌<◌, length, slice_set, refl, ap, arith}
+use Rattle.std.proofs.Math.Seq.{map-set_same}
 use Rattle.ports.specs.Faults.{Rose}
 use Rattle.round_loop.specs.Keeping.{moment}
 use Rattle.run_model.specs.Calls.{Call, IsReady}
@@ -39,7 +40,10 @@ returns-in-Ok g c = record {
       } in
       dropped g.D.Disk.state faults call k c.requires.engines.0 ready (meters_after faults meters k below own c.drop_store.new.meter c.index_mut.ensures.value end.later) refl refl refl refl refl
       end.beat end.back_graphs end.back_values end.back_lanes end.back_spills end.stops
-      (record { graphs = end.empty_graphs; values = end.empty_values; lanes = end.empty_lanes; spills = end.empty_spills });
+      (record { graphs = end.empty_graphs; values = end.empty_values; lanes = end.empty_lanes; spills = end.empty_spills }) (
+        end.calm_graphs,
+        (map-set_same faults meters k c.drop_store.new.meter own (end.calm ∙ ap faults c.index_mut.ensures.value), record { values = end.calm_values; lanes = end.calm_lanes; spills = end.calm_spills }),
+      );
 }
 
 pub returns-in-Err : goal.returns-in-Err

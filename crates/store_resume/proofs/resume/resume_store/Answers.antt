@@ -1,5 +1,6 @@
 -- The store was recovered, with a round or with none, or it was not.
-use Rattle.std.proofs.Common.{◌∙◌, ℕ, ◌<◌, List, length, slice_set, refl, sym, subst, arith}
+use Rattle.std.proofs.Common.{◌∙◌, ℕ, ◌<◌, List, length, slice_set, refl, sym, ap, subst, arith}
+use Rattle.std.proofs.Math.Seq.{map-set_same}
 use Rattle.ports.specs.Faults.{Rose}
 use Rattle.store_model.specs.Damage.{HasFault}
 use Rattle.store_checks.specs.Causes.{Tell}
@@ -39,6 +40,7 @@ returns-in-Ok-Found-clause-resume g c text read_faults =
     resumed_as g.D.Disk.state disks.lawful faults call (slice_set meters k c.recover.new.meter) k read.field-0 read.ensures.formed
     (read.ensures.engines ∙ c.requires.ready.graphs.all) c.requires.ready
     (meters_after faults meters k below c.index_mut.result.now c.recover.new.meter c.index_mut.ensures.value read.ensures.later)
+    (map-set_same faults meters k c.recover.new.meter c.index_mut.result.now (read.ensures.calm ∙ ap faults c.index_mut.ensures.value))
     read.ensures.recovered refl refl read.ensures.of_job (Found read.job read.index read.round read.changed) read.field-0-is end.result (end.ensures.goes_on text read_faults)
 
 pub returns-in-Ok-Fresh-clause-resume : goal.returns-in-Ok-Fresh-clause-resume
@@ -65,6 +67,7 @@ returns-in-Ok-Fresh-clause-resume g c text read_faults =
     resumed_as g.D.Disk.state disks.lawful faults call (slice_set meters k c.recover.new.meter) k read.field-0 read.ensures.formed
     (read.ensures.engines ∙ c.requires.ready.graphs.all) c.requires.ready
     (meters_after faults meters k below c.index_mut.result.now c.recover.new.meter c.index_mut.ensures.value read.ensures.later)
+    (map-set_same faults meters k c.recover.new.meter c.index_mut.result.now (read.ensures.calm ∙ ap faults c.index_mut.ensures.value))
     read.ensures.recovered refl refl read.ensures.of_job (Fresh read.job read.index) read.field-0-is end.result (end.ensures.goes_on text read_faults)
 
 pub returns-in-Err-clause-resume : goal.returns-in-Err-clause-resume

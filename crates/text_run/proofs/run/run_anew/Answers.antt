@@ -1,7 +1,8 @@
 -- There was no memory, the store was not made, or it was, and the job was run.
 use Rattle.std.proofs.Common.{◌∙◌, ◌<◌, ◌≤◌, List, length, slice_set, sym, ap, subst, arith}
+use Rattle.std.proofs.Math.Seq.{map-set_same}
 use Rattle.ports.specs.Faults.{Rose}
-use Rattle.ports.specs.Devices.{MetersGoOn}
+use Rattle.ports.specs.Devices.{MetersGoOn, NoMeterRose}
 use Rattle.round_steps.proofs.Kept.{meters_then}
 use Rattle.round_loop.specs.Keeping.{moment}
 use Rattle.run_model.specs.Calls.{Call}
@@ -15,7 +16,7 @@ use Rattle.text_run.proofs.Finished.{finished_as}
 use Rattle.text_run.proofs.run.run_anew.Goals as goal
 
 pub returns-in-Err-clause-run : goal.returns-in-Err-clause-run
-returns-in-Err-clause-run g c earlier on =
+returns-in-Err-clause-run g c earlier on still =
     let disks = g.met.D.Disk g.world.𝓛 g.world.𝓜 g.world.𝓡 ((λ s x. x), (λ x. x), (λ x. x), λ x. x) in
     let meters = c.args.meters.now.items in
     no_room g.D.Disk.state disks.lawful g.D.M.Meter.faults c.args.job.now (g.S.Source.left c.args.source.now) (g.K.Sink.written c.args.out.now) (g.S.Source.faults c.args.source.now) (g.K.Sink.faults c.args.out.now) c.args.store.now
@@ -23,7 +24,7 @@ returns-in-Err-clause-run g c earlier on =
     (ready_with g.D.Disk.state c.args.job.now.engines c.args.store.now meters earlier c.args.seat.now.view c.args.beat.now (sym on.many) c.requires.ready) on
 
 pub returns-in-Err-prepare-clause-run : goal.returns-in-Err-prepare-clause-run
-returns-in-Err-prepare-clause-run g c earlier on =
+returns-in-Err-prepare-clause-run g c earlier on still =
     let faults = g.D.M.Meter.faults in
     let meters = c.args.meters.now.items in
     let k = c.args.job.now.engines in
@@ -45,7 +46,7 @@ run_job-finish-requires-clause-store g c κs within =
     c.in-Ok-prepare.ensures.prepares c.in-Ok-prepare.ensures.rest.0 c.in-Ok-prepare.ensures.rest.1 c.args.meters.now.items c.args.seat.now.view c.requires.ready
 
 pub returns-clause-run : goal.returns-clause-run
-returns-clause-run g c earlier on =
+returns-clause-run g c earlier on still =
     let disks = g.met.D.Disk g.world.𝓛 g.world.𝓜 g.world.𝓡 ((λ s x. x), (λ x. x), (λ x. x), λ x. x) in
     let faults = g.D.M.Meter.faults in
     let meters = c.args.meters.now.items in
@@ -55,6 +56,7 @@ returns-clause-run g c earlier on =
     let later : faults own ≤ faults c.prepare.new.meter = subst (λ m. faults own ≤ faults m) (sym c.in-Ok-prepare.ensures.rest.2) (omega arith) in
     let after : List g.row.D-M.Denot = slice_set meters k c.prepare.new.meter in
     let on_after : MetersGoOn faults earlier after = meters_then faults earlier meters after on (meters_after faults meters k below own c.prepare.new.meter c.index_mut.ensures.value later) in
+    let still_after : NoMeterRose faults earlier after = map-set_same faults meters k c.prepare.new.meter own (ap faults (c.in-Ok-prepare.ensures.rest.2 ∙ c.index_mut.ensures.value)) ∙ still in
     let end = c.run_job-finish in
     let call : Call g.row.D.Denot g.row.D-M.Denot = record {
       text = g.S.Source.left c.args.source.now;
@@ -72,4 +74,4 @@ returns-clause-run g c earlier on =
     (Rose (g.S.Source.faults c.args.source.now) (g.S.Source.faults c.prepare.new.source)) c.prepare.new.store after c.in-Ok-prepare.index
     (ready_with g.D.Disk.state k c.args.store.now meters earlier c.args.seat.now.view c.args.beat.now (sym on.many) c.requires.ready) on_after c.requires.shut
     c.in-Ok-prepare.ensures.prepares c.in-Ok-prepare.ensures.rest.0 c.in-Ok-prepare.ensures.rest.1
-    end.result end.ensures.rounds end.ensures.printed end.ensures.cause c.ending_of.result c.ending_of.ensures
+    end.result end.ensures.rounds end.ensures.printed end.ensures.cause still_after c.in-Ok-prepare.ensures.calm c.ending_of.result c.ending_of.ensures

@@ -1,5 +1,6 @@
 -- All graph devices are open, one of them is not, or a read failed.
-use Rattle.std.proofs.Common.{◌<◌, length, slice_set, arith}
+use Rattle.std.proofs.Common.{◌∙◌, ◌<◌, length, slice_set, ap, arith}
+use Rattle.std.proofs.Math.Seq.{map-set_same}
 use Rattle.job_run.proofs.Meters.{meter_rose}
 use Rattle.run_model.proofs.Going.{meters_after}
 use Rattle.text_run.proofs.Held.{held, unread}
@@ -20,9 +21,12 @@ returns-in-Ok-true-clause-run g c =
 pub returns-in-Ok-false-clause-run : goal.returns-in-Ok-false-clause-run
 returns-in-Ok-false-clause-run g c =
     let meters = c.args.meters.now.items in
-    let below : c.args.job.now.engines < length meters = omega (arith, c.requires.ready.meters) in
+    let faults = g.D.M.Meter.faults in
+    let k = c.args.job.now.engines in
+    let below : k < length meters = omega (arith, c.requires.ready.meters) in
     c.run_anew.ensures.run meters
-    (meters_after g.D.M.Meter.faults meters c.args.job.now.engines below c.index_mut.result.now c.all_open.new.meter c.index_mut.ensures.value c.in-Ok-false.ensures.cause.later)
+    (meters_after faults meters k below c.index_mut.result.now c.all_open.new.meter c.index_mut.ensures.value c.in-Ok-false.ensures.cause.later)
+    (map-set_same faults meters k c.all_open.new.meter c.index_mut.result.now (c.in-Ok-false.ensures.cause.calm ∙ ap faults c.index_mut.ensures.value))
 
 pub returns-in-Err-clause-run : goal.returns-in-Err-clause-run
 returns-in-Err-clause-run g c =

@@ -8,6 +8,7 @@ use Rattle.chunk_model.specs.Layout.{update_layout}
 use Rattle.chunk_model.specs.ChunkBytes.{chunk_bytes}
 use Rattle.graph_model.specs.declared.value.Update.{Update}
 use Rattle.seeded_place.specs.Placing.{placed}
+use Rattle.update_lanes.proofs.GoingOn.{none_rose}
 use Rattle.update_lanes.proofs.Written.{lane_goes_on, made_more, length-places_of, length-placed}
 use Rattle.update_lanes.proofs.lanes.write_chunk.Goals as goal
 
@@ -33,3 +34,9 @@ returns-clause-lanes g c =
     let within : c.next-engine.result < length c.args.lanes.now = search rules in
     let lane = get_or_default c.args.lanes.now c.next-engine.result c.append_chunk.new.disk c.index-lanes-engine.result within in
     lane_goes_on g.D.Disk.state c.args.beat.now _ _ c.args.lanes.now c.next-engine.result _ c.append_chunk.new.disk within lane c.in_ok-at.ensures.writes
+
+pub returns-clause-calm : goal.returns-clause-calm
+returns-clause-calm g c =
+    let within : c.next-engine.result < length c.args.lanes.now = search rules in
+    let lane = get_or_default c.args.lanes.now c.next-engine.result c.append_chunk.new.disk c.index-lanes-engine.result within in
+    none_rose g.D.Disk.state c.args.lanes.now c.next-engine.result _ c.append_chunk.new.disk lane c.in_ok-at.ensures.writes.cause.calm

@@ -19,7 +19,7 @@ partitions-preserved g c =
     let below : c.partitions.partition < length c.args.out.now.buffers.items = omega (arith, c.requires.room.many, in_parts) in
     let some : 0 < length (get_or c.partitions.out.buffers.items c.partitions.partition c.index.result.now).items = search rules in
     flushing_one g.D.Disk.state c.args.beat.now c.partitions.partition c.args.out.now c.partitions.out c.flush_one.new.out c.args.lanes.now c.partitions.lanes c.flush_one.new.lanes c.args.places.now.items c.partitions.places.items c.flush_one.new.places.items c.index.result.now below in_parts some is
-    c.flush_one.ensures.same c.flush_one.ensures.room c.flush_one.ensures.buffers c.flush_one.ensures.lanes c.in_ok-flush_one.ensures.ready c.in_ok-flush_one.ensures.noted c.in_ok-flush_one.ensures.made
+    c.flush_one.ensures.same c.flush_one.ensures.room c.flush_one.ensures.buffers c.flush_one.ensures.lanes c.in_ok-flush_one.ensures.calm c.in_ok-flush_one.ensures.ready c.in_ok-flush_one.ensures.noted c.in_ok-flush_one.ensures.made
 
 pub returns-in_err-flush_one-clause-few : goal.returns-in_err-flush_one-clause-few
 returns-in_err-flush_one-clause-few g c =

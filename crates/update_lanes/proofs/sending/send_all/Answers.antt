@@ -30,8 +30,11 @@ edges-preserved g c =
     } in
     let whole : sent_by s (take i c.args.edges.now) ++ update ∷ [] ≡ sent_by s (take (i + 1) c.args.edges.now) =
     sym (sent_by-next s c.args.edges.now i none c.edges-test.true ∙ ap (λ us. sent_by s (take i c.args.edges.now) ++ us) along) in
-    subst (λ us. SendsOn g.D.Disk.state c.args.beat.now c.args.out.now c.put.new.out c.args.lanes.now c.put.new.lanes c.args.places.now.items c.put.new.places.items us) whole
-    (sends_then g.D.Disk.state c.args.beat.now c.args.out.now c.edges.out c.put.new.out c.args.lanes.now c.edges.lanes c.put.new.lanes c.args.places.now.items c.edges.places.items c.put.new.places.items (sent_by s (take i c.args.edges.now)) (update ∷ []) c.edges.invariant one)
+    record {
+      sends = subst (λ us. SendsOn g.D.Disk.state c.args.beat.now c.args.out.now c.put.new.out c.args.lanes.now c.put.new.lanes c.args.places.now.items c.put.new.places.items us) whole
+          (sends_then g.D.Disk.state c.args.beat.now c.args.out.now c.edges.out c.put.new.out c.args.lanes.now c.edges.lanes c.put.new.lanes c.args.places.now.items c.edges.places.items c.put.new.places.items (sent_by s (take i c.args.edges.now)) (update ∷ []) c.edges.invariant.sends one);
+      calm = c.in_ok-put.ensures.calm ∙ c.edges.invariant.calm;
+    }
 
 pub returns-in_err-put-clause-stops : goal.returns-in_err-put-clause-stops
 returns-in_err-put-clause-stops g c =
@@ -40,10 +43,10 @@ returns-in_err-put-clause-stops g c =
     let few : length (sent_by s (take i c.args.edges.now)) ≤ length c.args.edges.now = omega (arith, length-sent_by s (take i c.args.edges.now), length-take i c.args.edges.now) in
     on_err c.from_residual.result _ c.from_residual.ensures.0
     (stops_then g.D.Disk.state c.args.beat.now c.args.out.now c.edges.out c.put.new.out c.args.lanes.now c.edges.lanes c.put.new.lanes c.args.places.now.items c.edges.places.items c.put.new.places.items (sent_by s (take i c.args.edges.now)) (length c.args.edges.now)
-    c.edges.invariant c.put.ensures.same c.put.ensures.room c.put.ensures.lanes c.in_err-put.ensures.kept few)
+    c.edges.invariant.sends c.put.ensures.same c.put.ensures.room c.put.ensures.lanes c.in_err-put.ensures.kept few)
 
 pub returns-in_err-put-clause-cause : goal.returns-in_err-put-clause-cause
 returns-in_err-put-clause-cause g c =
     err_cause c.from_residual.result _ _
-    (λ fault same is. rose_since g.D.Disk.state c.args.beat.now c.args.lanes.now c.edges.lanes c.put.new.lanes c.edges.invariant.go_on (c.in_err-put.ensures.cause (sym same ∙ is)))
+    (λ fault same is. rose_since g.D.Disk.state c.args.beat.now c.args.lanes.now c.edges.lanes c.put.new.lanes c.edges.invariant.sends.go_on (c.in_err-put.ensures.cause (sym same ∙ is)))
     c.from_residual.ensures.1

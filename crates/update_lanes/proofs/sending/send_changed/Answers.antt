@@ -31,8 +31,11 @@ edges-preserved g c =
     } in
     let whole : sent_by_marked rules_of c.args.first c.args.now.now c.args.changed.now (take i c.args.edges.now) ++ update ∷ [] ≡ sent_by_marked rules_of c.args.first c.args.now.now c.args.changed.now (take (i + 1) c.args.edges.now) =
     sym (marked-next rules_of c.args.first c.args.now.now c.args.changed.now c.args.edges.now i none c.edges-test.true ∙ ap (λ us. sent_by_marked rules_of c.args.first c.args.now.now c.args.changed.now (take i c.args.edges.now) ++ us) along) in
-    subst (λ us. SendsOn g.D.Disk.state c.args.beat.now c.args.out.now c.put.new.out c.args.lanes.now c.put.new.lanes c.args.places.now.items c.put.new.places.items us) whole
-    (sends_then g.D.Disk.state c.args.beat.now c.args.out.now c.edges.out c.put.new.out c.args.lanes.now c.edges.lanes c.put.new.lanes c.args.places.now.items c.edges.places.items c.put.new.places.items (sent_by_marked rules_of c.args.first c.args.now.now c.args.changed.now (take i c.args.edges.now)) (update ∷ []) c.edges.invariant one)
+    record {
+      sends = subst (λ us. SendsOn g.D.Disk.state c.args.beat.now c.args.out.now c.put.new.out c.args.lanes.now c.put.new.lanes c.args.places.now.items c.put.new.places.items us) whole
+          (sends_then g.D.Disk.state c.args.beat.now c.args.out.now c.edges.out c.put.new.out c.args.lanes.now c.edges.lanes c.put.new.lanes c.args.places.now.items c.edges.places.items c.put.new.places.items (sent_by_marked rules_of c.args.first c.args.now.now c.args.changed.now (take i c.args.edges.now)) (update ∷ []) c.edges.invariant.sends one);
+      calm = c.in_ok-put.ensures.calm ∙ c.edges.invariant.calm;
+    }
 
 pub returns-in_err-put-clause-stops : goal.returns-in_err-put-clause-stops
 returns-in_err-put-clause-stops g c =
@@ -43,12 +46,12 @@ returns-in_err-put-clause-stops g c =
     on_err c.from_residual.result _ c.from_residual.ensures.0
     (stops_then g.D.Disk.state c.args.beat.now c.args.out.now c.edges.out c.put.new.out c.args.lanes.now c.edges.lanes c.put.new.lanes c.args.places.now.items c.edges.places.items c.put.new.places.items
     (sent_by_marked rules_of c.args.first c.args.now.now c.args.changed.now (take i c.args.edges.now)) (length c.args.edges.now)
-    c.edges.invariant c.put.ensures.same c.put.ensures.room c.put.ensures.lanes c.in_err-put.ensures.kept few)
+    c.edges.invariant.sends c.put.ensures.same c.put.ensures.room c.put.ensures.lanes c.in_err-put.ensures.kept few)
 
 pub returns-in_err-put-clause-cause : goal.returns-in_err-put-clause-cause
 returns-in_err-put-clause-cause g c =
     err_cause c.from_residual.result _ _
-    (λ fault same is. rose_since g.D.Disk.state c.args.beat.now c.args.lanes.now c.edges.lanes c.put.new.lanes c.edges.invariant.go_on (c.in_err-put.ensures.cause (sym same ∙ is)))
+    (λ fault same is. rose_since g.D.Disk.state c.args.beat.now c.args.lanes.now c.edges.lanes c.put.new.lanes c.edges.invariant.sends.go_on (c.in_err-put.ensures.cause (sym same ∙ is)))
     c.from_residual.ensures.1
 
 pub returns-clause-sends : goal.returns-clause-sends
@@ -57,4 +60,4 @@ returns-clause-sends g c = λ before changes.
     let all : take c.edges.edge-index c.args.edges.now ≡ c.args.edges.now = take_all c.edges.edge-index c.args.edges.now (omega (arith, c.edges-test.false)) in
     subst (λ us. SendsOn g.D.Disk.state c.args.beat.now c.args.out.now c.edges.out c.args.lanes.now c.edges.lanes c.args.places.now.items c.edges.places.items us)
     (ap (sent_by_marked rules_of c.args.first c.args.now.now c.args.changed.now) all ∙ marked_is_changed rules_of c.args.first c.args.now.now c.args.changed.now before c.args.out.now.split.vertices c.args.edges.now changes c.requires.edges)
-    c.edges.invariant
+    c.edges.invariant.sends

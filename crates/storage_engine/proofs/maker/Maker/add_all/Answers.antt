@@ -29,6 +29,7 @@ loop-k-preserved g c =
     let within : c.loop-k.k < length c.args.edges.now = first_of (omega arith, search rules, grind (arith, common_steps)) in
     record {
       steps = each_then g.D.Disk.state IsClosedFront c.args.beat.now c.args.graphs.now c.loop-k.graphs c.add.new.graphs disks.lawful c.loop-k.invariant.steps c.add.ensures.steps;
+      calm = c.in_default.ensures.calm ∙ c.loop-k.invariant.calm;
       job = c.add.ensures.job ∙ c.loop-k.invariant.job;
       making = λ before making.
           making_further g.D.Disk.state c.args.self.now.job c.loop-k.self.job before c.args.edges.now c.loop-k.k _ c.loop-k.self.buffers c.add.new.self.buffers c.loop-k.self.placer c.add.new.self.placer c.loop-k.self.index c.add.new.self.index c.loop-k.graphs c.add.new.graphs

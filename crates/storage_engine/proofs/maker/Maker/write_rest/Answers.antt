@@ -17,6 +17,7 @@ use Rattle.storage_engine.proofs.maker.Maker.write_rest.Goals as goal
 pub parts-preserved-then-is_empty : goal.parts-preserved-then-is_empty
 parts-preserved-then-is_empty g c = record {
   steps = c.parts.invariant.steps;
+  calm = c.parts.invariant.calm;
   job = c.parts.invariant.job;
   written = λ edges making.
       let written = c.parts.invariant.written edges making in
@@ -36,6 +37,7 @@ parts-preserved g c =
     let disks = g.met.D.Disk g.world.𝓛 g.world.𝓜 g.world.𝓡 ((λ s x. x), (λ x. x), (λ x. x), λ x. x) in
     record {
       steps = each_then g.D.Disk.state IsClosedFront c.args.beat.now c.args.graphs.now c.parts.graphs c.write.new.graphs disks.lawful c.parts.invariant.steps c.write.ensures.steps;
+      calm = c.in_default.ensures.calm ∙ c.parts.invariant.calm;
       job = c.write.ensures.job ∙ c.parts.invariant.job;
       written = λ edges making.
           let job = c.args.self.now.job in

@@ -1,0 +1,15 @@
+use Rattle.std.proofs.Common.{◌∙◌, ◌<◌, length, rules, arith}
+use Rattle.std.proofs.lemmas.Grind.{common_steps}
+use Rattle.std.proofs.Math.Seq.{map-set_same}
+use Rattle.restart.proofs.Devices.{one_done}
+use Rattle.restart.proofs.dropping.empty_all.Goals as goal
+
+pub loop-disk-preserved : goal.loop-disk-preserved
+loop-disk-preserved g c =
+    let within : c.loop-disk.disk-index < length c.loop-disk.disks = first_of (omega arith, search rules, grind (arith, common_steps)) in
+    record {
+      done = one_done _ _ c.loop-disk.disk-index c.args.disks.now c.loop-disk.disks c.disk-item.result c.empty.new.disk within c.loop-disk.invariant.done c.empty.ensures.empties c.in_ok-empty.ensures.empty;
+      calm =
+          map-set_same (λ x. (g.D.Disk.state x).faults) c.loop-disk.disks c.loop-disk.disk-index c.empty.new.disk c.disk-item.result c.in_ok-empty.ensures.cause.calm
+          ∙ c.loop-disk.invariant.calm;
+    }
