@@ -5,5 +5,6 @@ pub mod Moves
 pub mod Whole
 pub mod Covered
 pub mod Order
+pub mod Rows
 mod WorkedExamples
 pub mod Dutiful

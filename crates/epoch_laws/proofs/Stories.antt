@@ -3,7 +3,7 @@ use Rattle.std.proofs.Common.{◌≡◌, ◌≢◌, ◌⊎◌, inl, inr, ℕ, ze
 use Rattle.std.specs.List.{All, range_with_len}
 use Rattle.std.proofs.lemmas.Bool.{eqb-true, eqb-false, or_parts, ne_eqb}
 use Rattle.std.proofs.lemmas.List.{map-append, get_or_default}
-use Rattle.std.proofs.lemmas.List.Elements.{All-nil, All-cons, All-head, All-tail, All-append, All-weaker, All-filter, filter-append, filter_passes}
+use Rattle.std.proofs.lemmas.List.Elements.{All-from_recursion, All-nil, All-cons, All-head, All-tail, All-append, All-weaker, All-filter, filter-append, filter_passes}
 use Rattle.chunk_object.specs.declared.call.Call.{Call}
 use Rattle.chunk_object.specs.declared.call.Call.TheVariants.{Open, Greet, Took, Exhausted, Look, Heads, Admitted, Contended, Split, Join}
 use Rattle.chunk_object.specs.declared.call.Entry.{Entry}
@@ -12,7 +12,8 @@ use Rattle.chunk_object.specs.History.{final, EachStep, object_step, IsAnswered,
 use Rattle.chunk_object.specs.Epochs.{cursor_of, Terms, Epoch, list_of, entry_of, first_entries, opens_of, greets_of, splits_of, returns_of, epoch_entries}
 use Rattle.chunk_object.specs.Duty.{partition_of, MeetsDuty}
 use Rattle.chunk_object.proofs.Histories.{final-append}
-use Rattle.chunk_object.proofs.Moves.{greets_sets, opens_sets}
+use Rattle.chunk_object.proofs.Moves.{greets_sets, opens_sets, len_kept}
+use Rattle.chunk_object.proofs.Rows as rows
 use Rattle.graph_model.proofs.BoolLemmas.{true_is_not}
 use Rattle.epoch_laws.specs.Turns.{IsTheirs, IsOpened, EpochHistory, calls_of_worker}
 use Rattle.epoch_laws.proofs.Duties.{dutiful_parts}
@@ -241,38 +242,12 @@ len_of_run c (e ∷ l) o = len_of_run c l (after o e.call) ∙ ap (λ n. final (
     step (Split serial worker) = refl
     step (Join serial worker) = refl
 
--- what is not opened does not count for it
-len_kept : (c w : ℕ) (l : List Entry) (n : ℕ) → final (len_step c) n (filter (bears_on w) l) ≡ final (len_step c) n l
-len_kept c w [] n = refl
-len_kept c w (e ∷ l) n = by_test (bears_on w e) refl (λ k. len_kept c w l k)
-  where
-    no_open : (k : Call) → sets_word k ≡ false → len_after c n k ≡ n
-    no_open (Open cursor len) is = absurd (grind (arith, is))
-    no_open (Greet partition) is = refl
-    no_open (Took cursor chunk) is = refl
-    no_open (Exhausted cursor) is = refl
-    no_open (Look cursor left) is = refl
-    no_open (Heads partition heads) is = refl
-    no_open (Admitted partition heads) is = refl
-    no_open (Contended partition heads found) is = refl
-    no_open (Split serial worker) is = refl
-    no_open (Join serial worker) is = refl
-
-    by_test : (kept : Bool) → bears_on w e ≡ kept → ((k : ℕ) → final (len_step c) k (filter (bears_on w) l) ≡ final (len_step c) k l) → final (len_step c) n (if kept then e ∷ filter (bears_on w) l else filter (bears_on w) l) ≡ final (len_step c) n (e ∷ l)
-    by_test true is rest = rest (len_step c n e)
-    by_test false is rest = rest n ∙ ap (λ k. final (len_step c) k l) (sym (no_open e.call (or_parts (sets e) (e.worker == w) is).0))
-
 -- rows of calls of the first caller
 row_all : (P : Entry → Type 0) (f : ℕ → Call) → ((k : ℕ) → P (entry_of 0 8 (f k))) → (a n : ℕ) → All P (first_entries (map f (range_with_len a n)))
-row_all P f each a zero = All-nil P
-row_all P f each a (suc n) = All-cons P (entry_of 0 8 (f a)) (first_entries (map f (range_with_len (a + 1) n))) (each a) (row_all P f each (a + 1) n)
+row_all P f each a n = All-from_recursion P (first_entries (map f (range_with_len a n))) (rows.row_all P f each a n)
 
 rows_all : (P : Entry → Type 0) (f : ℕ → ℕ → Call) → ((e p : ℕ) → P (entry_of 0 8 (f e p))) → (k a n : ℕ) → All P (first_entries (flat_map (λ engine. map (f engine) (range_with_len 0 k)) (range_with_len a n)))
-rows_all P f each k a zero = All-nil P
-rows_all P f each k a (suc n) =
-    subst (All P) (sym (map-append (entry_of 0 8) (map (f a) (range_with_len 0 k)) (flat_map (λ engine. map (f engine) (range_with_len 0 k)) (range_with_len (a + 1) n))))
-    (All-append P (first_entries (map (f a) (range_with_len 0 k))) (first_entries (flat_map (λ engine. map (f engine) (range_with_len 0 k)) (range_with_len (a + 1) n)))
-    (row_all P (f a) (each a) 0 k) (rows_all P f each k (a + 1) n))
+rows_all P f each k a n = All-from_recursion P (first_entries (flat_map (λ engine. map (f engine) (range_with_len 0 k)) (range_with_len a n))) (rows.rows_all P f each k a n)
 
 or_left : (a b : Bool) → a ≡ true → (a || b) ≡ true
 or_left a b is = ap (λ t. t || b) is

@@ -2,7 +2,7 @@
 use Rattle.std.proofs.Common.{◌≡◌, ◌≢◌, ℕ, zero, suc, ◌+◌, ◌/◌, ◌%◌, ◌<◌, ◌≤◌, Bool, true, false, cond, ◌&&◌, eqb, ltb, List, [], ◌∷◌, ◌++◌, map, refl, ap, sym, ◌∙◌, subst, inl, inr, ◌⊎◌, ⊎_elim, arith, eq-eqb, ne_eqb}
 use Rattle.std.specs.List.{All, AllByRecursion, flat_map, range_with_len}
 use Rattle.std.proofs.lemmas.Bool.{eqb-true, false≢true, cases_eq, cases_lt, cases_Bool, cond-true, cond-false, lt-ltb, le-ltb}
-use Rattle.std.proofs.lemmas.List.{append-nil}
+use Rattle.std.proofs.lemmas.List.{append-nil, map-append}
 use Rattle.std.proofs.lemmas.List.Elements.{All-nil, filter-append}
 use Rattle.chunk_object.specs.declared.call.Call.{Call}
 use Rattle.chunk_object.specs.declared.call.Call.TheVariants.{Open, Greet, Split}
@@ -12,6 +12,7 @@ use Rattle.chunk_object.specs.History.{final, entries_of, count_step, count_from
 use Rattle.chunk_object.specs.Epochs.{cursor_of, Terms, entry_of, first_entries, opens_of, greets_of, splits_of}
 use Rattle.chunk_object.proofs.Histories.{put_at_here, put_at_else, final-append, count-append, total_same_below}
 use Rattle.chunk_object.proofs.Covered.{all_both, zero_either}
+use Rattle.chunk_object.proofs.Rows.{row_all, rows_all}
 use Rattle.chunk_cursor.specs.declared.view.View.{View}
 use Rattle.chunk_cursor.specs.View.{knows}
 use Rattle.phase_model.specs.Taken.{taken}
@@ -43,20 +44,12 @@ module _ (starts hits : Entry → Bool) where
   start_right (x ∷ xs) ys has = inr (start_right xs ys has)
 
 -- calls of a kind, by a row of numbers
-row_all : (P : Entry → Type 0) (f : ℕ → Call) → ((n : ℕ) → P (entry_of 0 8 (f n))) → (a n : ℕ) → AllByRecursion P (first_entries (map f (range_with_len a n)))
-row_all P f each a zero = tt
-row_all P f each a (suc n) = (each a, row_all P f each (a + 1) n)
-
 row_start : (starts hits : Entry → Bool) (f : ℕ → Call) (i : ℕ) → starts (entry_of 0 8 (f i)) ≡ true → (a n : ℕ) → a ≤ i → i < a + n → HasStart starts hits (first_entries (map f (range_with_len a n)))
 row_start starts hits f i is a zero low high = absurd (omega arith)
 row_start starts hits f i is a (suc n) low high = ⊎_elim
     (λ same. inl (subst (λ k. starts (entry_of 0 8 (f k)) ≡ true) same is))
     (λ ne. inr (row_start starts hits f i is (a + 1) n (omega arith) (omega arith)))
     (cases_eq i a)
-
-first-append : (xs ys : List Call) → first_entries (xs ++ ys) ≡ first_entries xs ++ first_entries ys
-first-append [] ys = refl
-first-append (x ∷ xs) ys = ap (λ l. entry_of 0 8 x ∷ l) (first-append xs ys)
 
 module _ (terms : Terms) (lens : ℕ → ℕ) where
   abbrev opening : (engine partition : ℕ) → Call
@@ -65,16 +58,10 @@ module _ (terms : Terms) (lens : ℕ → ℕ) where
   abbrev rows : (a n : ℕ) → List Call
   rows a n = flat_map (λ engine. map (opening engine) (range_with_len 0 terms.partitions)) (range_with_len a n)
 
-  rows_all : (P : Entry → Type 0) → ((engine partition : ℕ) → P (entry_of 0 8 (opening engine partition))) → (a n : ℕ) → AllByRecursion P (first_entries (rows a n))
-  rows_all P each a zero = tt
-  rows_all P each a (suc n) =
-      subst (AllByRecursion P) (sym (first-append (map (opening a) (range_with_len 0 terms.partitions)) (rows (a + 1) n)))
-      (all_both P (first_entries (map (opening a) (range_with_len 0 terms.partitions))) (first_entries (rows (a + 1) n)) (row_all P (opening a) (each a) 0 terms.partitions) (rows_all P each (a + 1) n))
-
   rows_start : (starts hits : Entry → Bool) (engine partition : ℕ) → starts (entry_of 0 8 (opening engine partition)) ≡ true → partition < terms.partitions → (a n : ℕ) → a ≤ engine → engine < a + n → HasStart starts hits (first_entries (rows a n))
   rows_start starts hits engine partition is below a zero low high = absurd (omega arith)
   rows_start starts hits engine partition is below a (suc n) low high =
-      subst (HasStart starts hits) (sym (first-append (map (opening a) (range_with_len 0 terms.partitions)) (rows (a + 1) n)))
+      subst (HasStart starts hits) (sym (map-append (entry_of 0 8) (map (opening a) (range_with_len 0 terms.partitions)) (rows (a + 1) n)))
       (⊎_elim
       (λ same. start_left starts hits (first_entries (map (opening a) (range_with_len 0 terms.partitions))) (first_entries (rows (a + 1) n)) (row_start starts hits (opening a) partition (subst (λ k. starts (entry_of 0 8 (opening k partition)) ≡ true) same is) 0 terms.partitions (omega arith) (omega arith)))
       (λ ne. start_right starts hits (first_entries (map (opening a) (range_with_len 0 terms.partitions))) (first_entries (rows (a + 1) n)) (rows_start starts hits engine partition is below (a + 1) n (omega arith) (omega arith)))
@@ -83,7 +70,7 @@ module _ (terms : Terms) (lens : ℕ → ℕ) where
   rows_within : (P : Entry → Type 0) (top : ℕ) → ((engine partition : ℕ) → engine < top → partition < terms.partitions → P (entry_of 0 8 (opening engine partition))) → (a n : ℕ) → a + n ≤ top → AllByRecursion P (first_entries (rows a n))
   rows_within P top each a zero low = tt
   rows_within P top each a (suc n) low =
-      subst (AllByRecursion P) (sym (first-append (map (opening a) (range_with_len 0 terms.partitions)) (rows (a + 1) n)))
+      subst (AllByRecursion P) (sym (map-append (entry_of 0 8) (map (opening a) (range_with_len 0 terms.partitions)) (rows (a + 1) n)))
       (all_both P (first_entries (map (opening a) (range_with_len 0 terms.partitions))) (first_entries (rows (a + 1) n)) (within 0 terms.partitions (omega arith)) (rows_within P top each (a + 1) n (omega arith)))
     where
       within : (i m : ℕ) → i + m ≤ terms.partitions → AllByRecursion P (first_entries (map (opening a) (range_with_len i m)))
@@ -221,7 +208,7 @@ module _ (terms : Terms) (lens : ℕ → ℕ) (past : List Entry) (before splits
 
   all_new : (P : Entry → Type 0) → ((opened : ℕ) → P (entry_of 0 8 (Open opened (lens opened)))) → ((p : ℕ) → P (entry_of 0 8 (Greet p))) → ((serial worker : ℕ) → P (entry_of 0 8 (Split serial worker))) → AllByRecursion P new_entries
   all_new P opens_too greets_too splits_too =
-      all_both P (first_entries the_rows) (first_entries (greets_of terms) ++ first_entries (splits_of before splits)) (rows_all terms lens P (λ engine partition. opens_too (cursor_of engine partition)) 0 terms.engines)
+      all_both P (first_entries the_rows) (first_entries (greets_of terms) ++ first_entries (splits_of before splits)) (rows_all P (opening terms lens) (λ engine partition. opens_too (cursor_of engine partition)) terms.partitions 0 terms.engines)
       (all_both P (first_entries (greets_of terms)) (first_entries (splits_of before splits)) (row_all P Greet greets_too 0 terms.partitions) (row_all P (λ worker. Split (suc (before + worker)) worker) (λ worker. splits_too (suc (before + worker)) worker) 0 splits))
 
   module _ (starts hits : Entry → Bool) where
@@ -282,12 +269,12 @@ module _ (terms : Terms) (lens : ℕ → ℕ) (past : List Entry) (before splits
       let own : entries_of 0 new_entries ≡ new_entries =
       filter-append (λ (e : Entry). eqb e.serial 0) (first_entries the_rows) (first_entries (greets_of terms) ++ first_entries (splits_of before splits))
       ∙ (ap (λ l. l ++ entries_of 0 (first_entries (greets_of terms) ++ first_entries (splits_of before splits))) (own_entries the_rows)
-      ∙ ap (λ l. first_entries the_rows ++ l) (ap (entries_of 0) (sym (first-append (greets_of terms) (splits_of before splits))) ∙ (own_entries the_rest ∙ first-append (greets_of terms) (splits_of before splits)))) in
+      ∙ ap (λ l. first_entries the_rows ++ l) (ap (entries_of 0) (sym (map-append (entry_of 0 8) (greets_of terms) (splits_of before splits))) ∙ (own_entries the_rest ∙ map-append (entry_of 0 8) (greets_of terms) (splits_of before splits)))) in
       ap (final epoch_step no_epoch) (filter-append (λ (e : Entry). eqb e.serial 0) past new_entries ∙ ap (λ l. entries_of 0 past ++ l) own)
       ∙ (final-append epoch_step no_epoch (entries_of 0 past) new_entries
       ∙ (final-append epoch_step (epoch_of past) (first_entries the_rows) (first_entries (greets_of terms) ++ first_entries (splits_of before splits))
       ∙ (ap (λ t. final epoch_step t (first_entries (greets_of terms) ++ first_entries (splits_of before splits))) (begins_anew (epoch_of past) the_rows ended (calls_open 0 terms.engines) rows_some)
-      ∙ ap (final epoch_step begun) (sym (first-append (greets_of terms) (splits_of before splits))))))
+      ∙ ap (final epoch_step begun) (sym (map-append (entry_of 0 8) (greets_of terms) (splits_of before splits))))))
 
   engine_is : (e : ℕ) → begun.engines e ≡ cond (ltb e terms.engines) 1 0
   engine_is e = ⊎_elim
@@ -309,7 +296,7 @@ module _ (terms : Terms) (lens : ℕ → ℕ) (past : List Entry) (before splits
   greeted_is p within =
       ap (λ (t : EpochSoFar). t.greeted p) epoch_is
       ∙ is_greeted p begun the_rest rest_quiet
-      (subst (HasStart (λ x. greets p x.call) (λ x. greets p x.call)) (sym (first-append (greets_of terms) (splits_of before splits)))
+      (subst (HasStart (λ x. greets p x.call) (λ x. greets p x.call)) (sym (map-append (entry_of 0 8) (greets_of terms) (splits_of before splits)))
       (start_left (λ x. greets p x.call) (λ x. greets p x.call) (first_entries (greets_of terms)) (first_entries (splits_of before splits)) (row_start (λ x. greets p x.call) (λ x. greets p x.call) Greet p (eq-eqb p p refl) 0 terms.partitions (omega arith) (omega arith))))
 
   pub may_work : (v : View) → v.serial ≢ 0 → v.story ≡ [] → v.held ≡ past ++ new_entries → MayWork terms lens v
