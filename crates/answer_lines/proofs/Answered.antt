@@ -7,7 +7,7 @@ use Rattle.ports.specs.Sink.{Appends, AppendsFront}
 use Rattle.ports.specs.Told.{AsTold}
 use Rattle.partitioner.specs.declared.split.Split.{Split}
 use Rattle.answer_lines.specs.Lines.{lines_from}
-use Rattle.answer_lines.specs.Values.{HoldValues}
+use Rattle.store_reader.specs.Values.{HoldValues}
 use Rattle.answer_lines.specs.Printing.{PrintsAll, PrintsFront}
 use Rattle.answer_lines.proofs.Written.{front_more}
 use Rattle.answer_lines.proofs.LineLemmas.{lines_from-parts}

@@ -1,5 +1,4 @@
 pub mod Written
 pub mod LineLemmas
-pub mod Sets
 pub mod Printed
 pub mod Answered

@@ -1,7 +1,8 @@
 -- What was printed after a partition more, and at the end.
-use Rattle.std.proofs.Common.{◌≡◌, ℕ, ◌+◌, ◌<◌, ◌≤◌, Bool, Option, List, [], ◌++◌, length, take, drop, refl, sym, ◌∙◌, ap, subst, arith, append_assoc, zero-add, length-append}
+use Rattle.std.proofs.Common.{◌≡◌, ℕ, zero, suc, ◌+◌, ◌<◌, ◌≤◌, Bool, Option, List, [], ◌∷◌, ◌++◌, length, take, drop, refl, sym, ◌∙◌, ap, subst, arith, append_assoc, zero-add, length-append}
 use Rattle.std.proofs.lemmas.List.{take_all}
-use Rattle.std.proofs.Math.Seq.{take-add}
+use Rattle.std.specs.List.{range_with_len}
+use Rattle.std.proofs.Math.Seq.{take-add, drop-cons}
 use Rattle.graph_model.specs.declared.value.Value.{Value}
 use Rattle.graph_model.specs.Partitions.{first_vertex}
 use Rattle.graph_model.specs.Rounds.{value_at}
@@ -11,12 +12,21 @@ use Rattle.ports.specs.Sink.{Appends, AppendsFront}
 use Rattle.ports.specs.Told.{AsTold}
 use Rattle.partitioner.specs.declared.split.Split.{Split}
 use Rattle.partitioner.proofs.Ranges.{first_vertex-next, first_vertex-end}
+use Rattle.store_model.specs.Kept.{values_of}
 use Rattle.store_reader.specs.Reading.{len_in}
+use Rattle.store_reader.specs.Values.{HoldValues, IsSet}
 use Rattle.answer_lines.specs.Lines.{lines_from, Passes}
-use Rattle.answer_lines.specs.Values.{HoldValues, IsSet}
 use Rattle.answer_lines.specs.Printing.{PrintsAll, PrintsFront, PrintsFirst}
 use Rattle.answer_lines.proofs.Written.{front_more, passes_none, passes_then, front_then, front_of_waits, front_none, front_of_whole, written_whole}
 use Rattle.answer_lines.proofs.LineLemmas.{lines_from-append, lines_from-more, lines_from-parts}
+
+-- the values of consecutive vertices
+consecutive : (all : List Value) (first count : ℕ) → first + count ≤ length all → values_of (range_with_len first count) all ≡ take count (drop first all)
+consecutive all first zero within = refl
+consecutive all first (suc count) within =
+    let next : first + 1 ≡ suc first = omega arith in
+    ap (λ vs. value_at all first ∷ vs) (consecutive all (first + 1) count (omega arith) ∙ ap (λ n. take count (drop n all)) next)
+    ∙ ap (take (suc count)) (sym (drop-cons all first _ (omega arith)))
 
 -- one line more
 pub line_passes : (with_side : Bool) (first : ℕ) (values : List Value) (k : ℕ) (piece waits waits' waits'' : List ℕ) (x y z : Option (List ℕ)) → k < length values → piece ≡ line with_side (first + k) (value_at values k)
@@ -56,10 +66,11 @@ module _ {X : Type 0} (state : X → DiskState) (split : Split) (devices : List 
     both_are : (set : List Value) → length set ≡ len_in split p → IsSet state split devices slot p set → (all : List Value) → HoldValues state split devices slot all → so_far.values ++ set ≡ take (first_vertex split.vertices split.parts (p + 1)) all
     both_are set long are all holds =
         let first : ℕ = first_vertex split.vertices split.parts p in
+        let next : first + len_in split p ≡ first_vertex split.vertices split.parts (p + 1) = first_vertex-next split.vertices split.parts p (p + 1) refl in
         ap (λ vs. vs ++ set) (so_far.are all holds)
-        ∙ ap (λ vs. take first all ++ vs) (are all holds)
+        ∙ ap (λ vs. take first all ++ vs) (are all holds ∙ consecutive all first (len_in split p) (omega (arith, holds.long, next)))
         ∙ sym (take-add first (len_in split p) all)
-        ∙ ap (λ n. take n all) (first_vertex-next split.vertices split.parts p (p + 1) refl)
+        ∙ ap (λ n. take n all) next
 
     both_text : (set : List Value) → text_of_values with_side so_far.values ++ lines_from with_side (first_vertex split.vertices split.parts p) set ≡ text_of_values with_side (so_far.values ++ set)
     both_text set =

@@ -10,7 +10,7 @@ use Rattle.partitioner.specs.declared.split.Split.{Split}
 use Rattle.answer_lines.specs.declared.print.PrintFault.{PrintFault}
 use Rattle.answer_lines.specs.declared.print.PrintFault.TheVariants.{DiskFault, WriteFault}
 use Rattle.answer_lines.specs.Lines.{Passes}
-use Rattle.answer_lines.specs.Values.{HoldValues}
+use Rattle.store_reader.specs.Values.{HoldValues}
 
 module _ {X : Type 0} (state : X → DiskState) (split : Split) (devices : List X) (slot : ℕ) (with_side : Bool) where
   -- **The lines of all vertices were printed**: of the values that stand in the slot, where the devices tell.

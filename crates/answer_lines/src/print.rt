@@ -5,10 +5,9 @@ ghost use Rattle.partitioner.specs.Splits.{IsSplit};
 ghost use Rattle.ports.specs.Faults.{HasCause};
 ghost use Rattle.ports.specs.Sink.{AppendsFront};
 ghost use Rattle.ports.specs.Told.{AsTold};
-ghost use Rattle.store_reader.specs.Reading.{len_in};
+ghost use Rattle.store_reader.specs.Values.{AreValueDevices};
 ghost use Rattle.value_text.specs.Shown.{shows_side};
 ghost use Rattle.answer_lines.specs.Lines.{lines_from, Passes};
-ghost use Rattle.answer_lines.specs.Values.{AreValuesDevices, IsSet};
 ghost use Rattle.answer_lines.specs.Room.{IsRoom};
 ghost use Rattle.answer_lines.specs.Printing.{PrintsAll, PrintsFront, PrintsFirst, HasPrintCause};
 
@@ -18,7 +17,7 @@ use arrayvec::ArrayVec;
 use graph_model::Value;
 use partitioner::Split;
 use ports::{Disk, Failed, Sink};
-use store_reader::read_set;
+use store_reader::read_values;
 use value_text::{Shown, put_line};
 
 /// Why an answer was not printed to its end.
@@ -42,7 +41,7 @@ pub fn print_answer<K: Sink, D: Disk>(
     out: &mut K,
 ) -> Result<(), PrintFault>
     requires split { IsSplit split.now }
-    requires devices { AreValuesDevices D.state split.now values.now }
+    requires devices { AreValueDevices D.state split.now values.now }
     requires slot { slot < 2 }
     requires room { IsRoom split.now room.old }
     ensures whole { OnOk result (PrintsAll D.state split.now values.now slot (shows_side shown) (K.written out.old) (K.written out.new)) }
@@ -76,7 +75,7 @@ fn print_partition<K: Sink, D: Disk>(
 ) -> Result<(), PrintFault>
     requires split { IsSplit split.now }
     requires partition { partition < split.now.parts }
-    requires devices { AreValuesDevices D.state split.now values.now }
+    requires devices { AreValueDevices D.state split.now values.now }
     requires slot { slot < 2 }
     requires room { IsRoom split.now room.old }
     ensures first { OnOk result ((start : Option (List ℕ))
@@ -106,39 +105,6 @@ fn print_partition<K: Sink, D: Disk>(
         Ok(()) => Ok(()),
         Err(_) => Err(PrintFault::WriteFault),
     }
-}
-
-/// Reads the values of a partition in a slot to the front of `into`. One call of a device.
-fn read_values<D: Disk>(
-    devices: &[D],
-    meter: &mut D::M,
-    split: &Split,
-    partition: u32,
-    slot: u32,
-    bytes: &mut [u8],
-    into: &mut [Value],
-) -> Result<(), Failed>
-    requires split { IsSplit split.now }
-    requires devices { AreValuesDevices D.state split.now devices.now }
-    requires slot { slot < 2 }
-    requires partition { partition < split.now.parts }
-    requires bytes { 16 * len_in split.now partition ≤ length bytes.old }
-    requires into { len_in split.now partition ≤ length into.old }
-    ensures rooms { (length bytes.new ≡ length bytes.old) × (length into.new ≡ length into.old) }
-    ensures read { OnOk result (IsSet D.state split.now devices.now slot partition (take (len_in split.now partition) into.new)) }
-    ensures cause { HasCause (D.M.faults meter.old) (D.M.faults meter.new) result }
-{
-    let (first, end) = split.range(partition);
-    let len = (end - first) as usize;
-    read_set(
-        &devices[split.master_of(partition) as usize],
-        meter,
-        split,
-        partition,
-        slot,
-        &mut bytes[..WIDTH * len],
-        &mut into[..len],
-    )
 }
 
 /// Puts the lines of the values of consecutive vertices behind those that wait.

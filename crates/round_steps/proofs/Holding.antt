@@ -12,7 +12,7 @@ use Rattle.partitioner.specs.declared.split.Split.{Split}
 use Rattle.ports.specs.Disk.{DiskState}
 use Rattle.store_model.specs.Slots.{slot_of, slot_values, values_bytes}
 use Rattle.store_reader.specs.Reading.{own_in, master_in}
-use Rattle.scatter_phase.specs.Values.{HoldValues, HoldBefore, told_of}
+use Rattle.store_reader.specs.Values.{HoldValues, HoldBefore, told_of}
 use Rattle.apply_round.specs.Made.{share_of}
 use Rattle.list_moves.proofs.Desks.{some_of}
 use Rattle.round_steps.specs.Rounds.{earlier_values}

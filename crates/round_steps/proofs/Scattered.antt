@@ -20,7 +20,7 @@ use Rattle.store_reader.specs.declared.store.Outcome.TheVariants.{Done, DiskFaul
 use Rattle.store_reader.specs.Indexed.{HasRecords}
 use Rattle.scatter_phase.specs.declared.desk.ScatterContext.{ScatterContext}
 use Rattle.scatter_phase.specs.Phases.{MayStopBy}
-use Rattle.scatter_phase.specs.Values.{HoldValues, HoldBefore}
+use Rattle.store_reader.specs.Values.{HoldValues, HoldBefore}
 use Rattle.scatter_epoch.specs.declared.crew.Scattered.{Scattered}
 use Rattle.scatter_epoch.specs.Scattering as scattering
 use Rattle.scatter_epoch.specs.Scattering.{HaveScattered, RoseOfOne}

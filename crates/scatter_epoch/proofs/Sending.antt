@@ -44,7 +44,7 @@ use Rattle.update_lanes.specs.Outgoing.{FitsJob}
 use Rattle.scatter_phase.specs.declared.desk.ScatterContext.{ScatterContext}
 use Rattle.scatter_phase.specs.declared.desk.ScatterDesk.{ScatterDesk}
 use Rattle.scatter_phase.specs.Scattered.{HasScattered}
-use Rattle.scatter_phase.specs.Values.{HoldValues, HoldBefore}
+use Rattle.store_reader.specs.Values.{HoldValues, HoldBefore}
 use Rattle.list_moves.proofs.Desks.{some_of}
 use Rattle.scatter_epoch.specs.Joining.{places_at, all_places, IsIndexOf}
 use Rattle.scatter_epoch.specs.Dealing.{seat_at, lanes_at, places_on, number_at}

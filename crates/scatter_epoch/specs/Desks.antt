@@ -9,7 +9,8 @@ use Rattle.store_reader.specs.Indexed.{IsServing, lens_of}
 use Rattle.update_lanes.specs.Lanes.{GoOn}
 use Rattle.scatter_phase.specs.declared.desk.ScatterContext.{ScatterContext}
 use Rattle.scatter_phase.specs.declared.desk.ScatterDesk.{ScatterDesk}
-use Rattle.scatter_phase.specs.Rooms.{IsRoom, AreLanes, AreValueDevices, AreSlots}
+use Rattle.store_reader.specs.Values.{AreValueDevices}
+use Rattle.scatter_phase.specs.Rooms.{IsRoom, AreLanes, AreSlots}
 use Rattle.scatter_phase.specs.Phases.{MayStopBy, AreWithin}
 use Rattle.scatter_phase.specs.Scattered.{HasScattered, HasFaultCause}
 

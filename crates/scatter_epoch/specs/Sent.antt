@@ -22,7 +22,7 @@ use Rattle.store_reader.specs.declared.serving.Shelf.TheVariants.{Lanes}
 use Rattle.store_reader.specs.Indexed.{IsServing, HasRecords, lens_of}
 use Rattle.update_lanes.specs.Outgoing.{FitsJob}
 use Rattle.scatter_phase.specs.declared.desk.ScatterContext.{ScatterContext}
-use Rattle.scatter_phase.specs.Values.{HoldValues, HoldBefore}
+use Rattle.store_reader.specs.Values.{HoldValues, HoldBefore}
 
 module _ {D : Type 0} (state : D → DiskState) where
   -- each lane of each worker tells its bytes

@@ -29,8 +29,8 @@ use Rattle.update_lanes.specs.declared.outgoing.Outgoing.{Outgoing}
 use Rattle.update_lanes.specs.Outgoing.{SendsOn, StopsOn}
 use Rattle.update_lanes.specs.Sending.{IsFrom, AreChanges, value_from, sending_all}
 use Rattle.scatter_phase.specs.declared.desk.ScatterRoom.{ScatterRoom}
-use Rattle.scatter_phase.specs.Values.{values_in, HoldValues, HoldBefore}
-use Rattle.scatter_phase.specs.Phases.{IsSet, IsSetBefore, AreMarkedSince}
+use Rattle.store_reader.specs.Values.{values_in, HoldValues, HoldBefore}
+use Rattle.scatter_phase.specs.Phases.{IsSetAtFront, IsSetBefore, AreMarkedSince}
 use Rattle.scatter_phase.specs.Sending.{sending_from, sending_in}
 
 -- the edges of a chunk come from its partition
@@ -58,7 +58,7 @@ value_here split p set values v is not_before within =
 module _ {X : Type 0} (state : X → DiskState) (rules : Rules) (split : Split) (devices : List X) (p : ℕ) (now_slot : ℕ) where
   -- **What is sent under the values in the room is what is sent under those of all vertices.**
   pub sends_as_all : (slot : Option ℕ) (room : ScatterRoom) (es : List Edge) → All (IsFrom (first_vertex split.vertices split.parts p) (len_in split p) split.vertices) es
-      → IsSet state split devices now_slot p room.now.items → IsSetBefore state split devices slot p room.before.items
+      → IsSetAtFront state split devices now_slot p room.now.items → IsSetBefore state split devices slot p room.before.items
       → (now : List Value) → HoldValues state split devices now_slot now → (before : Option (List Value)) → HoldBefore state split devices slot before
       → sent_by (sending_in rules split p slot room) es ≡ sent_by (sending_of rules before now) es
   sends_as_all None room es from set set_before now holds None holds_before =

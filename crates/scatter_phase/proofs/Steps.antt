@@ -41,7 +41,7 @@ use Rattle.scatter_phase.specs.declared.desk.ScatterContext.{ScatterContext}
 use Rattle.scatter_phase.specs.declared.desk.ScatterDesk.{ScatterDesk}
 use Rattle.scatter_phase.specs.declared.desk.ScatterRoom.{ScatterRoom}
 use Rattle.scatter_phase.specs.Rooms.{IsRoom}
-use Rattle.scatter_phase.specs.Phases.{GoesOn, IsSet, IsSetBefore, AreMarked, AreLoaded, AreWithin, IsOpen, HasSentOf, DeskHolds, DeskStops, AreFound}
+use Rattle.scatter_phase.specs.Phases.{GoesOn, IsSetAtFront, IsSetBefore, AreMarked, AreLoaded, AreWithin, IsOpen, HasSentOf, DeskHolds, DeskStops, AreFound}
 use Rattle.scatter_phase.specs.Scattered.{HasFaultCause}
 use Rattle.scatter_phase.specs.Sending.{KeepsBuffers, sending_in, HasSentFor}
 use Rattle.scatter_phase.proofs.Counts.{no_more, one_more, within_as}
@@ -101,7 +101,7 @@ module _ {P D G M : Type 0} (rules : P → Rules) (state : D → DiskState) (c :
   pub loaded_kept : (old new : ScatterRoom) → KeepsBuffers old new → AreLoaded rules state c old → AreLoaded rules state c new
   loaded_kept old new kept loaded = λ p is.
       let there = loaded p (sym kept.loaded ∙ is) in (
-        subst (λ v. IsSet state c.serving.split.now c.values.now c.slot p v.items) (sym kept.now) there.0,
+        subst (λ v. IsSetAtFront state c.serving.split.now c.values.now c.slot p v.items) (sym kept.now) there.0,
         subst (λ v. IsSetBefore state c.serving.split.now c.values.now c.before p v.items) (sym kept.before) there.1,
         λ s some. marks_kept c.serving.split.now p old new kept (there.2 s some),
       )

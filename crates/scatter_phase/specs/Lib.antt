@@ -1,5 +1,4 @@
 pub mod Rooms
-pub mod Values
 pub mod Phases
 pub mod Acting
 pub mod Sending

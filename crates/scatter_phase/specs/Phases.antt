@@ -27,7 +27,7 @@ use Rattle.scatter_phase.specs.declared.desk.ScatterContext.{ScatterContext}
 use Rattle.scatter_phase.specs.declared.desk.ScatterDesk.{ScatterDesk}
 use Rattle.scatter_phase.specs.declared.desk.ScatterRoom.{ScatterRoom}
 use Rattle.scatter_phase.specs.Rooms.{IsRoom}
-use Rattle.scatter_phase.specs.Values.{values_in, HoldValues, HoldBefore}
+use Rattle.store_reader.specs.Values.{HoldValues, HoldBefore, IsSet}
 
 module _ {D M : Type 0} (state : D → DiskState) (faults : M → ℕ) (number : ℕ) where
   -- how a desk goes on under a beat of this number: its worker and rooms stay, counts of faults never fall, a disk fault is answered only where one rose, and Done only where it was and none rose
@@ -41,12 +41,12 @@ module _ {D M : Type 0} (state : D → DiskState) (faults : M → ℕ) (number :
 
 module _ {X : Type 0} (state : X → DiskState) (split : Split) (devices : List X) where
   -- the first of these values are those of the partition, whatever values of all vertices stand in the slot
-  abbrev pub IsSet : (slot partition : ℕ) → List Value → Type 0
-  IsSet slot partition set = (values : List Value) → HoldValues state split devices slot values → take (len_in split partition) set ≡ values_in split partition values
+  abbrev pub IsSetAtFront : (slot partition : ℕ) → List Value → Type 0
+  IsSetAtFront slot partition set = IsSet state split devices slot partition (take (len_in split partition) set)
 
   -- where there is a second slot
   abbrev pub IsSetBefore : (slot : Option ℕ) → (partition : ℕ) → List Value → Type 0
-  IsSetBefore slot partition set = (s : ℕ) → slot ≡ Some s → IsSet s partition set
+  IsSetBefore slot partition set = (s : ℕ) → slot ≡ Some s → IsSetAtFront s partition set
 
 -- the first of these marks, as many as the partition has vertices, tell which of the first values are other ones than before
 abbrev pub AreMarked : Split → (partition : ℕ) → (before now : List Value) → List Bool → Type 0
@@ -60,7 +60,7 @@ module _ {P D G M : Type 0} (rules : P → Rules) (state : D → DiskState) (c :
   -- the values of the partition that is loaded are in the room, and marks of those that changed
   abbrev pub AreLoaded : ScatterRoom → Type 0
   AreLoaded room = (partition : ℕ) → room.loaded ≡ Some partition
-      → IsSet state c.serving.split.now c.values.now c.slot partition room.now.items × IsSetBefore state c.serving.split.now c.values.now c.before partition room.before.items × AreMarkedSince c.serving.split.now c.before partition room
+      → IsSetAtFront state c.serving.split.now c.values.now c.slot partition room.now.items × IsSetBefore state c.serving.split.now c.values.now c.before partition room.before.items × AreMarkedSince c.serving.split.now c.before partition room
 
   -- the places that are noted are on engines and in partitions of the split
   abbrev pub AreWithin : List Placed → Type 0

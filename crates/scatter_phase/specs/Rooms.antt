@@ -26,11 +26,6 @@ pub record AreLanes {X : Type 0} (state : X → DiskState) (engines number : ℕ
   pub many : length lanes ≡ engines
   pub beats : (e : ℕ) (d : X) → e < length lanes → (state (slice_index_or lanes e d)).beat ≤ number
 
--- one values device for each engine, of the exact size for its vertices
-pub record AreValueDevices {X : Type 0} (state : X → DiskState) (split : Split) (devices : List X) : Type 0 where
-  pub many : length devices ≡ split.engines
-  pub exact : (e : ℕ) (d : X) → e < length devices → (state (slice_index_or devices e d)).size ≡ device_size (own_in split e)
-
 -- slots that a values device has
 pub record AreSlots (slot : ℕ) (before : Option ℕ) : Type 0 where
   pub first : slot < 2

@@ -19,7 +19,7 @@ use Rattle.update_lanes.specs.Lanes.{AreWritten, places_in}
 use Rattle.update_lanes.specs.Outgoing.{FitsJob}
 use Rattle.scatter_phase.specs.declared.desk.ScatterContext.{ScatterContext}
 use Rattle.scatter_phase.specs.declared.desk.ScatterDesk.{ScatterDesk}
-use Rattle.scatter_phase.specs.Values.{HoldValues, HoldBefore}
+use Rattle.store_reader.specs.Values.{HoldValues, HoldBefore}
 use Rattle.scatter_phase.specs.Phases.{AreFound}
 
 module _ {P D G M : Type 0} (rules : P → Rules) (state : D → DiskState) where

@@ -4,15 +4,16 @@ ghost use Rattle.graph_model.specs.declared.job.Job.{Job as JobOf};
 ghost use Rattle.ports.specs.Faults.{HasCause};
 ghost use Rattle.partitioner.specs.Splits.{IsSplit, IsSplitOf};
 ghost use Rattle.store_reader.specs.Reading.{len_in};
-ghost use Rattle.scatter_phase.specs.Rooms.{IsRoom, AreValueDevices, AreSlots};
-ghost use Rattle.scatter_phase.specs.Phases.{IsSet, AreMarked, AreLoaded};
+ghost use Rattle.store_reader.specs.Values.{AreValueDevices};
+ghost use Rattle.scatter_phase.specs.Rooms.{IsRoom, AreSlots};
+ghost use Rattle.scatter_phase.specs.Phases.{IsSetAtFront, AreMarked, AreLoaded};
 
 use crate::desk::{ScatterContext, ScatterRoom};
 use gather_laws::VertexProgram;
 use graph_model::Value;
 use partitioner::Split;
 use ports::{Disk, Failed, Gate};
-use store_reader::read_set;
+use store_reader::read_values;
 use update_lanes::mark_changes;
 
 /// Reads the values of a partition in the slots of the phase, and notes which changed, where they are not in memory.
@@ -41,7 +42,7 @@ pub(crate) fn load_values<P: VertexProgram, D: Disk, G: Gate>(
     room.loaded = None;
     let split = context.serving.split;
     let (now, bytes) = (&mut room.now, &mut room.bytes);
-    read_values(
+    read_front(
         context.values,
         meter,
         split,
@@ -52,7 +53,7 @@ pub(crate) fn load_values<P: VertexProgram, D: Disk, G: Gate>(
     )?;
     if let Some(slot) = context.before {
         let (before, bytes) = (&mut room.before, &mut room.bytes);
-        read_values(context.values, meter, split, partition, slot, bytes, before)?;
+        read_front(context.values, meter, split, partition, slot, bytes, before)?;
         let (now, before, changed) = (&room.now, &room.before, &mut room.changed);
         mark_values(split, partition, now, before, changed);
     }
@@ -94,8 +95,8 @@ fn mark_front(split: &Split, partition: u32, now: &[Value], before: &[Value], ch
     mark_changes(&now[..len], &before[..len], &mut changed[..len]);
 }
 
-/// Reads the values of a partition in a slot to the front of `into`. One call of a device.
-fn read_values<D: Disk>(
+/// Reads the values of a partition in a slot to the front of a buffer. One call of a device.
+fn read_front<D: Disk>(
     devices: &[D],
     meter: &mut D::M,
     split: &Split,
@@ -111,41 +112,8 @@ fn read_values<D: Disk>(
     requires bytes { 16 * len_in split.now partition ≤ length bytes.old.items }
     requires into { len_in split.now partition ≤ length into.old.items }
     ensures rooms { (length bytes.new.items ≡ length bytes.old.items) × (length into.new.items ≡ length into.old.items) }
-    ensures read { OnOk result (IsSet D.state split.now devices.now slot partition into.new.items) }
+    ensures read { OnOk result (IsSetAtFront D.state split.now devices.now slot partition into.new.items) }
     ensures cause { HasCause (D.M.faults meter.old) (D.M.faults meter.new) result }
 {
-    read_front(devices, meter, split, partition, slot, bytes, into)
-}
-
-/// The same to the front of a slice.
-fn read_front<D: Disk>(
-    devices: &[D],
-    meter: &mut D::M,
-    split: &Split,
-    partition: u32,
-    slot: u32,
-    bytes: &mut [u8],
-    into: &mut [Value],
-) -> Result<(), Failed>
-    requires split { IsSplit split.now }
-    requires devices { AreValueDevices D.state split.now devices.now }
-    requires slot { slot < 2 }
-    requires partition { partition < split.now.parts }
-    requires bytes { 16 * len_in split.now partition ≤ length bytes.old }
-    requires into { len_in split.now partition ≤ length into.old }
-    ensures rooms { (length bytes.new ≡ length bytes.old) × (length into.new ≡ length into.old) }
-    ensures read { OnOk result (IsSet D.state split.now devices.now slot partition into.new) }
-    ensures cause { HasCause (D.M.faults meter.old) (D.M.faults meter.new) result }
-{
-    let (first, end) = split.range(partition);
-    let len = (end - first) as usize;
-    read_set(
-        &devices[split.master_of(partition) as usize],
-        meter,
-        split,
-        partition,
-        slot,
-        &mut bytes[..16 * len],
-        &mut into[..len],
-    )
+    read_values(devices, meter, split, partition, slot, bytes, into)
 }

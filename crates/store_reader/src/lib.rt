@@ -14,6 +14,6 @@ mod store;
 #[cfg(test)]
 mod tests;
 
-pub use reading::{all_open, read_set, slot_head};
+pub use reading::{all_open, read_set, read_values, slot_head};
 pub use serving::{Served, Serving, Shelf, serve};
 pub use store::{Outcome, Part, SlotHead, Store};

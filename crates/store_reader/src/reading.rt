@@ -1,5 +1,5 @@
 //! What stands on the graph devices and values devices of a store.
-ghost use Rattle.std.specs.Prelude.{◌≡◌, ◌+◌, ◌*◌, ◌^◌, ◌<◌, ◌≤◌, IfOk, OnOk, IfSome, IsTrue, IsFalse, length};
+ghost use Rattle.std.specs.Prelude.{◌≡◌, ◌+◌, ◌*◌, ◌^◌, ◌<◌, ◌≤◌, IfOk, OnOk, IfSome, IsTrue, IsFalse, length, take};
 ghost use Rattle.std.specs.Int.{to_be_bytes, w64};
 ghost use Rattle.std.specs.List.{All};
 ghost use Rattle.ports.specs.Bytes.{bytes_at};
@@ -9,6 +9,7 @@ ghost use Rattle.store_model.specs.Slots;
 ghost use Rattle.store_model.specs.Slots.{device_size, set_bytes, values_bytes};
 ghost use Rattle.store_reader.specs.Devices.{IsOpenDevice, IsShutDevice, SomeShut};
 ghost use Rattle.store_reader.specs.Reading.{own_in, master_in, len_in, before_in, TellsHead};
+ghost use Rattle.store_reader.specs.Values.{AreValueDevices, IsSet};
 
 use crate::store::{SlotHead, Store};
 use graph_model::Value;
@@ -103,6 +104,40 @@ pub fn read_set<D: Disk>(
     disk.read_at(meter, at, bytes)?;
     decode_values(bytes, into);
     Ok(())
+}
+
+/// The values of a partition in a slot, to the front of `into`, from the values device of its master, of one device for
+/// each engine. One call of the device.
+pub fn read_values<D: Disk>(
+    devices: &[D],
+    meter: &mut D::M,
+    split: &Split,
+    partition: u32,
+    slot: u32,
+    bytes: &mut [u8],
+    into: &mut [Value],
+) -> Result<(), Failed>
+    requires split { IsSplit split.now }
+    requires devices { AreValueDevices D.state split.now devices.now }
+    requires partition { partition < split.now.parts }
+    requires slot { slot < 2 }
+    requires bytes { 16 * len_in split.now partition ≤ length bytes.old }
+    requires into { len_in split.now partition ≤ length into.old }
+    ensures rooms { (length bytes.new ≡ length bytes.old) × (length into.new ≡ length into.old) }
+    ensures values { OnOk result (IsSet D.state split.now devices.now slot partition (take (len_in split.now partition) into.new)) }
+    ensures cause { HasCause (D.M.faults meter.old) (D.M.faults meter.new) result }
+{
+    let (first, end) = split.range(partition);
+    let len = (end - first) as usize;
+    read_set(
+        &devices[split.master_of(partition) as usize],
+        meter,
+        split,
+        partition,
+        slot,
+        &mut bytes[..16 * len],
+        &mut into[..len],
+    )
 }
 
 /// Where a slot begins on the values device of an engine with so many vertices.

@@ -27,7 +27,7 @@ returns-in-Ok-put_lines-clause-first g c = λ start so_far.
     let room : c.deref.result.now ≡ c.read_values.new.into = c.deref.ensures.value ∙ take_at c.read_values.new.into _ _ (search rules) in
     let lines : lines_from side c.range-first.result.0 (take (c.range-first.result.1 - c.range-first.result.0) c.deref.result.now) ≡ lines_from side (first_vertex split.vertices split.parts p) set =
     lines_are side {from = first_vertex split.vertices split.parts p} {until = first_vertex split.vertices split.parts (p + 1)} c.range-first.ensures.first c.range-first.ensures.end room in
-    partition_printed g.D.Disk.state split c.args.values.now c.args.slot side p c.args.room.now.lines start _ so_far set c.put_lines.new.lines _ (length-take-le (len_in split p) c.read_values.new.into (search rules)) c.in-Ok.ensures.read
+    partition_printed g.D.Disk.state split c.args.values.now c.args.slot side p c.args.room.now.lines start _ so_far set c.put_lines.new.lines _ (length-take-le (len_in split p) c.read_values.new.into (search rules)) c.in-Ok.ensures.values
     (subst (λ (bytes : List ℕ). Passes bytes c.args.room.now.lines c.put_lines.new.lines (g.K.Sink.written c.args.out.now) (g.K.Sink.written c.put_lines.new.out)) lines c.in-Ok-put_lines.ensures.passes)
 
 pub returns-in-Err-put_lines-clause-front : goal.returns-in-Err-put_lines-clause-front
@@ -39,5 +39,5 @@ returns-in-Err-put_lines-clause-front g c = λ start so_far.
     let room : c.deref.result.now ≡ c.read_values.new.into = c.deref.ensures.value ∙ take_at c.read_values.new.into _ _ (search rules) in
     let lines : lines_from side c.range-first.result.0 (take (c.range-first.result.1 - c.range-first.result.0) c.deref.result.now) ≡ lines_from side (first_vertex split.vertices split.parts p) set =
     lines_are side {from = first_vertex split.vertices split.parts p} {until = first_vertex split.vertices split.parts (p + 1)} c.range-first.ensures.first c.range-first.ensures.end room in
-    partition_front g.D.Disk.state split c.args.values.now c.args.slot side p c.args.room.now.lines start _ so_far set _ (length-take-le (len_in split p) c.read_values.new.into (search rules)) c.in-Ok.ensures.read
+    partition_front g.D.Disk.state split c.args.values.now c.args.slot side p c.args.room.now.lines start _ so_far set _ (length-take-le (len_in split p) c.read_values.new.into (search rules)) c.in-Ok.ensures.values
     (subst (λ (bytes : List ℕ). AsTold (AppendsFront (c.args.room.now.lines ++ bytes)) (g.K.Sink.written c.args.out.now) (g.K.Sink.written c.put_lines.new.out)) lines c.in-Err-put_lines.ensures.front)
