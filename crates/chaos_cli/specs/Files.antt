@@ -4,7 +4,7 @@ use Rattle.std.specs.Global.{Global}
 use Rattle.std.specs.List.{range_with_len}
 use Rattle.real_devices.specs.FileState.{FileState, untold}
 use Rattle.store_reader.specs.declared.store.Store.{Store}
-use Rattle.round_steps.specs.Going.{AreDevices, AreRows}
+use Rattle.ports.specs.Devices.{AreDevices, AreRows}
 use Rattle.round_loop.specs.Keeping.{moment}
 use Rattle.run_model.specs.Calls.{IsReady}
 use Rattle.chaos_cli.specs.declared.opened.Opened.{Opened}

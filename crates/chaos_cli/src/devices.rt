@@ -1,7 +1,7 @@
 //! The files of a store.
 ghost use Rattle.std.specs.Prelude.{◌≡◌, ◌+◌, ◌≤◌, [], ◌∷◌, ◌++◌, length, IfOk, OnOk};
 ghost use Rattle.real_devices.specs.FileState.{untold};
-ghost use Rattle.round_steps.specs.Going.{AreDevices, AreRows};
+ghost use Rattle.ports.specs.Devices.{AreDevices, AreRows};
 ghost use Rattle.chaos_cli.specs.Files.{AreFiles, AreNumbered, AreNumberedRows};
 
 use itoa::Buffer;

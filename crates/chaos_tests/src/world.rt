@@ -2,7 +2,7 @@
 ghost use Rattle.std.specs.Prelude.{◌≡◌, ◌+◌, ◌≤◌, length};
 ghost use Rattle.mem_devices.specs.MemDisk.{disk_state};
 ghost use Rattle.round_loop.specs.Keeping.{moment};
-ghost use Rattle.round_steps.specs.Going.{AreDevices, AreRows};
+ghost use Rattle.ports.specs.Devices.{AreDevices, AreRows};
 ghost use Rattle.run_model.specs.Calls.{IsReady};
 
 use crate::contents::Contents;

@@ -79,7 +79,7 @@ takes_claims cursor chunk (Contended partition heads found) h = h
 takes_claims cursor chunk (Split serial worker) h = h
 takes_claims cursor chunk (Join serial worker) h = h
 
-is_on_claims : (cursor partition : ℕ) → cursor % 64 ≡ partition → (c : Call) → claims_at cursor c ≡ true → is_on partition c ≡ true
+pub is_on_claims : (cursor partition : ℕ) → cursor % 64 ≡ partition → (c : Call) → claims_at cursor c ≡ true → is_on partition c ≡ true
 is_on_claims cursor partition e c h = eq-eqb (partition_of c) partition (claims_on cursor c h ∙ e)
 
 -- claims at one cursor that end exhausted were told so

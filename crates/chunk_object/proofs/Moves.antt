@@ -36,6 +36,13 @@ len_skips : (cursor before : ℕ) (c : Call) → sets_word c ≡ false → len_a
 len_skips cursor before (Open opened len) e = absurd (cc)
 len_skips cursor before _ e = refl
 
+-- what does not open a cursor does not count for its length
+pub len_kept : (cursor worker : ℕ) (l : List Entry) (before : ℕ) → opened_from cursor before (filter (bears_on worker) l) ≡ opened_from cursor before l
+len_kept cursor worker l before = final-filter (bears_on worker) (λ k e. len_after cursor k e.call) skips before l
+  where
+    skips : (k : ℕ) (e : Entry) → bears_on worker e ≡ false → len_after cursor k e.call ≡ k
+    skips k e h = len_skips cursor k e.call (or_parts (sets_word e.call) (eqb e.worker worker) h).0
+
 -- counts of what bears on one worker are the same in two lists in which that is the same
 module _ (worker : ℕ) (xs ys : List Entry) (same : filter (bears_on worker) xs ≡ filter (bears_on worker) ys) where
   pub count_moves : (starts hits : Entry → Bool) → ((e : Entry) → starts e ≡ true → sets_word e.call ≡ true) → ((e : Entry) → hits e ≡ true → eqb e.worker worker ≡ true)
@@ -59,8 +66,4 @@ module _ (worker : ℕ) (xs ys : List Entry) (same : filter (bears_on worker) xs
   taken_by_moves cursor = count_moves (λ e. opens cursor e.call) (λ e. takes_any cursor e.call && eqb e.worker worker) (λ e. opens_sets cursor e.call) (λ e h. (and_parts (takes_any cursor e.call) (eqb e.worker worker) h).1)
 
   pub opened_len_moves : (cursor : ℕ) → opened_len cursor xs ≡ opened_len cursor ys
-  opened_len_moves cursor =
-      sym (final-filter (bears_on worker) (λ k e. len_after cursor k e.call) skips 0 xs) ∙ (ap (opened_from cursor 0) same ∙ final-filter (bears_on worker) (λ k e. len_after cursor k e.call) skips 0 ys)
-    where
-      skips : (k : ℕ) (e : Entry) → bears_on worker e ≡ false → len_after cursor k e.call ≡ k
-      skips k e h = len_skips cursor k e.call (or_parts (sets_word e.call) (eqb e.worker worker) h).0
+  opened_len_moves cursor = sym (len_kept cursor worker xs 0) ∙ (ap (opened_from cursor 0) same ∙ len_kept cursor worker ys 0)

@@ -4,7 +4,7 @@ use Rattle.std.specs.List.{All, range_with_len, sum_by}
 use Rattle.std.specs.Vec.{with_items}
 use Rattle.std.proofs.lemmas.List.{get_or-map, length-map}
 use Rattle.graph_model.specs.Programs.{Rules}
-use Rattle.ports.specs.Devices.{NoneRose, NoMeterRose}
+use Rattle.ports.specs.Devices.{NoneRose, SameCounts}
 use Rattle.ports.specs.Disk.{DiskState}
 use Rattle.ports.specs.Faults.{Rose}
 use Rattle.ports.proofs.Rising.{count_rose_before}
@@ -188,7 +188,7 @@ module _ {P D G M : Type 0} (rules : P → Rules) (state : D → DiskState) (fau
             (lowest.0, below, λ m d. rose lowest.0 below m d (own_outcome outcome_at done lowest.0 (desk lowest.0 below) lowest.1 ∙ fault))
 
         -- and none where all are
-        pub none_rose : lowest_outcome all_outcomes ≡ Done → NoneRose state spills emptied → NoMeterRose faults meters meters' × NoneRose state spills spills'
+        pub none_rose : lowest_outcome all_outcomes ≡ Done → NoneRose state spills emptied → SameCounts faults meters meters' × NoneRose state spills spills'
         none_rose through cut = (
           same_by faults meters meters' (omega (arith, same_len meter_at done meters' back.meters_are, same_len meter_at desks meters dealt.meters_are, all))
               (λ w m less.

@@ -1,6 +1,6 @@
 //! A gather epoch.
 ghost use Rattle.std.specs.Prelude.{◌≡◌, ◌≢◌, ◌⊎◌, ℕ, ◌<◌, ◌≤◌, All, OnOk, OnErr, length, vec_len, vec_capacity, slice_index_or};
-ghost use Rattle.ports.specs.Devices.{NoneRose, NoMeterRose};
+ghost use Rattle.ports.specs.Devices.{NoneRose, SameCounts};
 ghost use Rattle.ports.specs.Faults.{Rose};
 ghost use Rattle.replica_merge.specs.Accumulators.{split_of};
 ghost use Rattle.store_reader.specs.Indexed.{IsServing};
@@ -50,7 +50,7 @@ pub fn gather_all<R: Threads + Sync, P: VertexProgram, D: Disk, G: Gate + Sync>(
     ensures spills { (vec_len spills.new ≡ vec_len spills.old) × All (λ d. (D.state d).beat ≤ context.now.beat.now) spills.new.items }
     ensures goes_on { (w : ℕ) (m : _) (d : D) → w < context.now.serving.job.now.engines → GoesOn D.state D.M.faults (slice_index_or meters.old.items w m) (slice_index_or meters.new.items w m) (slice_index_or spills.old.items w d) (slice_index_or spills.new.items w d) }
     ensures cause { result.outcome ≡ Outcome.DiskFault → RoseOfOne D.state D.M.faults context.now.serving.job.now.engines meters.old.items meters.new.items spills.old.items spills.new.items }
-    ensures calm { result.outcome ≡ Outcome.Done → NoMeterRose D.M.faults meters.old.items meters.new.items × NoneRose D.state spills.old.items spills.new.items }
+    ensures calm { result.outcome ≡ Outcome.Done → SameCounts D.M.faults meters.old.items meters.new.items × NoneRose D.state spills.old.items spills.new.items }
     ensures stopped { result.outcome ≢ Outcome.Done → MayStopBy P.rules D.state context.now result.outcome }
     ensures few { (result.claims ≤ 1099511627776) × (result.admitted ≤ 512) }
     // What was done.

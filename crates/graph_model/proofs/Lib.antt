@@ -1,7 +1,9 @@
 pub mod BoolLemmas
 pub mod ListLemmas
+pub mod OneByOne
 pub mod RoundLemmas
 pub mod SentLemmas
 pub mod SplitLemmas
 pub mod TextLemmas
+pub mod VecLists
 pub mod WorkedExamples

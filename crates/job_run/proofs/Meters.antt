@@ -2,11 +2,10 @@
 use Rattle.std.proofs.Common.{◌≡◌, ℕ, ◌<◌, List, length, get_or, slice_set, sym, ◌∙◌, subst}
 use Rattle.std.proofs.lemmas.List.{get_or_default, get_or-set_same}
 use Rattle.ports.specs.Faults.{Rose}
-use Rattle.ports.specs.Devices.{MetersGoOn, NoMeterRose}
+use Rattle.ports.specs.Devices.{MetersGoOn, OneCountRose, SameCounts}
 use Rattle.answer_lines.specs.declared.print.PrintFault.{PrintFault}
 use Rattle.answer_lines.specs.declared.print.PrintFault.TheVariants.{DiskFault}
 use Rattle.answer_lines.specs.Printing.{IsCaused as IsCausedPrinting}
-use Rattle.round_steps.specs.Going.{MeterRose}
 use Rattle.round_steps.proofs.Kept.{meter_rose_later}
 use Rattle.job_run.specs.declared.finish.Finish.{Finish}
 use Rattle.job_run.specs.declared.finish.Finish.TheVariants.{Answered, NotWritten, NotRead, Stopped}
@@ -17,7 +16,7 @@ disk_rose disk sink fault is caused = subst (IsCausedPrinting disk sink) is caus
 
 module _ {M : Type 0} (faults : M → ℕ) where
   -- the count of the meter that was read through rose
-  pub meter_rose : (meters : List M) (k : ℕ) → k < length meters → (old new : M) → old ≡ get_or meters k old → Rose (faults old) (faults new) → MeterRose faults meters (slice_set meters k new)
+  pub meter_rose : (meters : List M) (k : ℕ) → k < length meters → (old new : M) → old ≡ get_or meters k old → Rose (faults old) (faults new) → OneCountRose faults meters (slice_set meters k new)
   meter_rose meters k below old new is rose = (
     k,
     below,
@@ -26,7 +25,7 @@ module _ {M : Type 0} (faults : M → ℕ) where
         (subst (λ a. Rose (faults old) (faults a)) (sym (get_or-set_same meters k new m below)) rose),
   )
 
-  module _ (old mid new : List M) (first : MetersGoOn faults old mid) (calm : NoMeterRose faults old mid) (writes writes' : ℕ) where
+  module _ (old mid new : List M) (first : MetersGoOn faults old mid) (calm : SameCounts faults old mid) (writes writes' : ℕ) where
     caused_since : (finish : Finish) → IsCaused faults mid new writes writes' finish → IsCaused faults old new writes writes' finish
     caused_since (Answered done) caused = (caused.0 ∙ calm, caused.1)
     caused_since (NotWritten done) caused = caused

@@ -2,11 +2,10 @@
 use Rattle.std.specs.Prelude.{◌≡◌, ℕ, ◌≤◌, Bool, List, Option}
 use Rattle.ports.specs.Disk.{DiskState}
 use Rattle.ports.specs.Faults.{Rose}
-use Rattle.ports.specs.Devices.{NoMeterRose}
+use Rattle.ports.specs.Devices.{OneCountRose, SameCounts}
 use Rattle.partitioner.specs.declared.split.Split.{Split}
 use Rattle.store_model.specs.Slots.{slot_of}
 use Rattle.answer_lines.specs.Printing.{PrintsAll, PrintsFront}
-use Rattle.round_steps.specs.Going.{MeterRose}
 use Rattle.job_run.specs.declared.finish.Finish.{Finish}
 use Rattle.job_run.specs.declared.finish.Finish.TheVariants.{Answered, NotWritten, NotRead, Stopped}
 
@@ -21,9 +20,9 @@ module _ {D : Type 0} (state : D → DiskState) (split : Split) (devices : List 
 module _ {M : Type 0} (faults : M → ℕ) (meters meters' : List M) (writes writes' : ℕ) where
   -- the count that rose before a fault of printing, and none where all was printed; where the rounds were stopped, that of the sink is as it was
   abbrev pub IsCaused : Finish → Type 0
-  IsCaused (Answered done) = NoMeterRose faults meters meters' × (writes' ≡ writes)
+  IsCaused (Answered done) = SameCounts faults meters meters' × (writes' ≡ writes)
   IsCaused (NotWritten done) = Rose writes writes'
-  IsCaused (NotRead done) = MeterRose faults meters meters'
+  IsCaused (NotRead done) = OneCountRose faults meters meters'
   IsCaused (Stopped fault) = writes' ≡ writes
 
   -- **The sink's count never falls, a fault of printing is answered only where its own count rose, and an answer is given only where none did**

@@ -4,9 +4,8 @@ use Rattle.std.specs.Vec.{with_items}
 use Rattle.std.proofs.lemmas.List.{get_or-set_same, get_or-set_other, get_or_default, length-set, with_items_is}
 use Rattle.ports.specs.Disk.{DiskState}
 use Rattle.ports.specs.Faults.{Rose}
-use Rattle.ports.specs.Devices.{OneRose}
+use Rattle.ports.specs.Devices.{OneRose, OneRowRose}
 use Rattle.graph_model.proofs.ListLemmas.{at_set}
-use Rattle.restart.specs.Devices.{OneRowRose}
 
 -- The entries below a number have had their step and are now as they should be, and the others are as they were.
 pub record DoneBelow {X : Type 0} (R : X → X → Type 0) (Q : X → Type 0) (e : ℕ) (olds mids : List X) : Type 0 where

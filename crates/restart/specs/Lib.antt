@@ -1,4 +1,3 @@
-pub mod Devices
 pub mod Dropping
 pub mod Recovering
 pub mod Storable

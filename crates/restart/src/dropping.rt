@@ -4,11 +4,10 @@ ghost use Rattle.std.specs.List.{All};
 ghost use Rattle.ports.specs.Disk.{InEveryImage};
 ghost use Rattle.ports.specs.Faults.{HasCause, HasCauseOfTwo, Rose};
 ghost use Rattle.ports.specs.Stops.{EachLeaves, IsStop, AreImages};
-ghost use Rattle.ports.specs.Devices.{Each, OneRose, NoneRose};
+ghost use Rattle.ports.specs.Devices.{Each, OneRose, NoneRose, EachRow, OneRowRose, NoRowRose};
 ghost use Rattle.store_model.specs.Heads.{IsShutGraph};
 ghost use Rattle.store_model.specs.Kept.{IsUnprepared};
 ghost use Rattle.store_reader.specs.Devices.{IsOpenDevice, IsShutDevice};
-ghost use Rattle.restart.specs.Devices.{EachRow, OneRowRose, NoRowRose};
 ghost use Rattle.restart.specs.Dropping.{Closes, Empties, HandsBack, IsEmpty, WhileDropped, WhileEmptied};
 
 use ports::{Beat, Disk, Failed, cut_synced, write_synced};
@@ -53,18 +52,18 @@ pub fn drop_store<D: Disk>(
     ensures beat { (beat.new ≡ beat.old) ⊎ (beat.new ≡ beat.old + 1) }
     ensures back_graphs { Each D.state (HandsBack beat.new) store.old.graphs.items store.new.graphs.items }
     ensures back_values { Each D.state (HandsBack beat.new) store.old.values.items store.new.values.items }
-    ensures back_lanes { EachRow (λ row. row.items) D.state (HandsBack beat.new) store.old.lanes.items store.new.lanes.items }
+    ensures back_lanes { EachRow D.state (HandsBack beat.new) store.old.lanes.items store.new.lanes.items }
     ensures back_spills { Each D.state (HandsBack beat.new) store.old.spills.items store.new.spills.items }
     ensures later { D.M.faults meter.old ≤ D.M.faults meter.new }
     ensures calm { OnOk result (D.M.faults meter.new ≡ D.M.faults meter.old) }
     ensures cause { OnErr result (Rose (D.M.faults meter.old) (D.M.faults meter.new)
         ⊎ OneRose D.state store.old.graphs.items store.new.graphs.items
         ⊎ OneRose D.state store.old.values.items store.new.values.items
-        ⊎ OneRowRose (λ row. row.items) D.state store.old.lanes.items store.new.lanes.items
+        ⊎ OneRowRose D.state store.old.lanes.items store.new.lanes.items
         ⊎ OneRose D.state store.old.spills.items store.new.spills.items) }
     ensures calm_graphs { OnOk result (NoneRose D.state store.old.graphs.items store.new.graphs.items) }
     ensures calm_values { OnOk result (NoneRose D.state store.old.values.items store.new.values.items) }
-    ensures calm_lanes { OnOk result (NoRowRose (λ row. row.items) D.state store.old.lanes.items store.new.lanes.items) }
+    ensures calm_lanes { OnOk result (NoRowRose D.state store.old.lanes.items store.new.lanes.items) }
     ensures calm_spills { OnOk result (NoneRose D.state store.old.spills.items store.new.spills.items) }
 {
     close_all(&mut store.graphs, meter, beat)?;
@@ -124,7 +123,7 @@ fn empty_store<D: Disk>(store: &mut Store<D>, beat: &Beat) -> Result<(), Failed>
     requires spill_beats { All (λ disk. (D.state disk).beat ≤ beat.now) store.old.spills.items }
     ensures graphs { Each D.state (Empties beat.now) store.old.graphs.items store.new.graphs.items }
     ensures values { Each D.state (Empties beat.now) store.old.values.items store.new.values.items }
-    ensures lanes { EachRow (λ row. row.items) D.state (Empties beat.now) store.old.lanes.items store.new.lanes.items }
+    ensures lanes { EachRow D.state (Empties beat.now) store.old.lanes.items store.new.lanes.items }
     ensures spills { Each D.state (Empties beat.now) store.old.spills.items store.new.spills.items }
     ensures empty_graphs { OnOk result (All (λ disk. IsEmpty (D.state disk)) store.new.graphs.items) }
     ensures empty_values { OnOk result (All (λ disk. IsEmpty (D.state disk)) store.new.values.items) }
@@ -132,11 +131,11 @@ fn empty_store<D: Disk>(store: &mut Store<D>, beat: &Beat) -> Result<(), Failed>
     ensures empty_spills { OnOk result (All (λ disk. IsEmpty (D.state disk)) store.new.spills.items) }
     ensures cause { OnErr result (OneRose D.state store.old.graphs.items store.new.graphs.items
         ⊎ OneRose D.state store.old.values.items store.new.values.items
-        ⊎ OneRowRose (λ row. row.items) D.state store.old.lanes.items store.new.lanes.items
+        ⊎ OneRowRose D.state store.old.lanes.items store.new.lanes.items
         ⊎ OneRose D.state store.old.spills.items store.new.spills.items) }
     ensures calm_graphs { OnOk result (NoneRose D.state store.old.graphs.items store.new.graphs.items) }
     ensures calm_values { OnOk result (NoneRose D.state store.old.values.items store.new.values.items) }
-    ensures calm_lanes { OnOk result (NoRowRose (λ row. row.items) D.state store.old.lanes.items store.new.lanes.items) }
+    ensures calm_lanes { OnOk result (NoRowRose D.state store.old.lanes.items store.new.lanes.items) }
     ensures calm_spills { OnOk result (NoneRose D.state store.old.spills.items store.new.spills.items) }
 {
     empty_all(&mut store.graphs, beat)?;
@@ -148,10 +147,10 @@ fn empty_store<D: Disk>(store: &mut Store<D>, beat: &Beat) -> Result<(), Failed>
 /// Empties each device of each row.
 fn empty_rows<D: Disk>(rows: &mut [Vec<D>], beat: &Beat) -> Result<(), Failed>
     requires beats { All (λ row. All (λ disk. (D.state disk).beat ≤ beat.now) row.items) rows.old }
-    ensures empties { EachRow (λ row. row.items) D.state (Empties beat.now) rows.old rows.new }
+    ensures empties { EachRow D.state (Empties beat.now) rows.old rows.new }
     ensures empty { OnOk result (All (λ row. All (λ disk. IsEmpty (D.state disk)) row.items) rows.new) }
-    ensures cause { OnErr result (OneRowRose (λ row. row.items) D.state rows.old rows.new) }
-    ensures calm { OnOk result (NoRowRose (λ row. row.items) D.state rows.old rows.new) }
+    ensures cause { OnErr result (OneRowRose D.state rows.old rows.new) }
+    ensures calm { OnOk result (NoRowRose D.state rows.old rows.new) }
 {
     for row in rows.iter_mut() {
         empty_all(row, beat)?;

@@ -10,7 +10,7 @@ use Rattle.graph_model.specs.Rounds.{IsUnsettled, IsLastRound}
 use Rattle.graph_model.proofs.RoundLemmas.{unsettled_has_no_last}
 use Rattle.ports.specs.Disk.{DiskState, IsDisk}
 use Rattle.ports.specs.Faults.{Rose}
-use Rattle.ports.specs.Devices.{MetersGoOn, NoMeterRose}
+use Rattle.ports.specs.Devices.{MetersGoOn, SameCounts}
 use Rattle.chunk_object.specs.Epochs.{Epoch, all_calls}
 use Rattle.chunk_cursor.specs.declared.view.View.{View}
 use Rattle.chunk_file.specs.declared.index.Place.{Place}
@@ -285,7 +285,7 @@ module _ {D M : Type 0} (state : D → DiskState) (faults : M → ℕ) (rules : 
       | inr device ↦ inr device
     ]
 
-    pub calm_with : OnOk result (NoMeterRose faults olds news) → OnOk result (NoMeterRose faults (olds ++ own ∷ []) (news ++ own ∷ []))
+    pub calm_with : OnOk result (SameCounts faults olds news) → OnOk result (SameCounts faults (olds ++ own ∷ []) (news ++ own ∷ []))
     calm_with calm = on_ok_weaker result (λ still. map-append faults news (own ∷ []) ∙ (ap (λ counts. counts ++ faults own ∷ []) still ∙ sym (map-append faults olds (own ∷ [])))) calm
 
     pub run_with : HasRun state faults rules job start index (moment old_store (olds ++ own ∷ []) old_seat old_beat) (moment new_store (news ++ own ∷ []) new_seat new_beat) result

@@ -9,7 +9,7 @@ use Rattle.ports.specs.Disk.{DiskState}
 use Rattle.ports.specs.Faults.{Rose}
 use Rattle.ports.proofs.Told.{told_on}
 use Rattle.ports.specs.Devices as devices
-use Rattle.ports.specs.Devices.{MetersGoOn}
+use Rattle.ports.specs.Devices.{MetersGoOn, OneCountRose}
 use Rattle.store_model.specs.Slots.{slot_of}
 use Rattle.store_reader.specs.Reading.{own_in}
 use Rattle.store_reader.specs.declared.store.Outcome.{Outcome}
@@ -19,7 +19,7 @@ use Rattle.apply_round.specs.Crew.{OneRose, EndsByCauses}
 use Rattle.apply_round.specs.Made.{AreMerged, made}
 use Rattle.apply_round.specs.Applying.{RoundTerms, AppliesToEach, StoresOnEach, MakesRound}
 use Rattle.apply_round.specs.Applying as applying
-use Rattle.round_steps.specs.Going.{KeepsOthers, MeterRose}
+use Rattle.round_steps.specs.Going.{KeepsOthers}
 use Rattle.round_steps.specs.Standing.{IsSound, StandsBefore, ValuesStand}
 use Rattle.round_steps.specs.Rounds.{StoresRound}
 
@@ -49,10 +49,10 @@ module _ {D M : Type 0} (state : D → DiskState) (faults : M → ℕ) (olds new
   rose_at f xs ys e d below many rose =
       subst (λ (k : ℕ). Rose k (f (slice_index_or ys e d))) (count_at f xs e d below) (subst (λ (k : ℕ). Rose (slice_index (map f xs) e) k) (count_at f ys e d (omega arith)) rose)
 
-  pub apply_cause : outcome ≡ DiskFault → MeterRose faults meters meters' ⊎ devices.OneRose state olds news
-  apply_cause fault = elim ends.ends as (λ _. MeterRose faults meters meters' ⊎ devices.OneRose state olds news) [
+  pub apply_cause : outcome ≡ DiskFault → OneCountRose faults meters meters' ⊎ devices.OneRose state olds news
+  apply_cause fault = elim ends.ends as (λ _. OneCountRose faults meters meters' ⊎ devices.OneRose state olds news) [
     | inl done ↦ absurd (let no : DiskFault ≡ Done = sym fault ∙ done in let never : ⊥ = cc in never)
-    | inr rose ↦ elim rose.1 as (λ _. MeterRose faults meters meters' ⊎ devices.OneRose state olds news) [
+    | inr rose ↦ elim rose.1 as (λ _. OneCountRose faults meters meters' ⊎ devices.OneRose state olds news) [
       | inl disk ↦ inr (disk.place, within_map (λ d. (state d).faults) olds disk, λ d. rose_at (λ x. (state x).faults) olds news disk.place d (within_map (λ x. (state x).faults) olds disk) same disk.rose)
       | inr meter ↦ inl (meter.place, within_map faults meters meter, λ m. rose_at faults meters meters' meter.place m (within_map faults meters meter) same' meter.rose)
     ]

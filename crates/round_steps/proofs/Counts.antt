@@ -4,11 +4,11 @@ use Rattle.std.specs.List.{All}
 use Rattle.std.proofs.lemmas.List.{get_or_default}
 use Rattle.ports.specs.Disk.{DiskState}
 use Rattle.ports.specs.Faults.{Rose}
-use Rattle.ports.specs.Devices.{OneRose, MetersGoOn}
+use Rattle.ports.specs.Devices.{OneRose, MetersGoOn, OneCountRose}
 use Rattle.update_lanes.specs.Lanes.{GoOn}
 use Rattle.gather_epoch.specs.Gathering.{GoesOn, RoseOfOne}
 use Rattle.list_moves.proofs.Desks.{some_of}
-use Rattle.round_steps.specs.Going.{MeterRose, Tell}
+use Rattle.round_steps.specs.Going.{Tell}
 
 -- what holds at a place of two lists holds whatever stands past their ends
 pub at_any : {A : Type 0} (R : A → A → Type 0) (xs ys : List A) (w : ℕ) (d e : A) → w < length xs → length ys ≡ length xs → R (slice_index_or xs w d) (slice_index_or ys w d) → R (slice_index_or xs w e) (slice_index_or ys w e)
@@ -33,13 +33,13 @@ module _ {D M : Type 0} (state : D → DiskState) (faults : M → ℕ) (engines 
     told = λ e d bytes below told. (goes_on e (some_of meters e (omega (arith, below))) d (omega (arith, below))).told bytes told;
   }
 
-  pub rose_of_one : length meters ≡ engines → length meters' ≡ engines → length spills ≡ engines → length spills' ≡ engines → RoseOfOne state faults engines meters meters' spills spills' → MeterRose faults meters meters' ⊎ OneRose state spills spills'
+  pub rose_of_one : length meters ≡ engines → length meters' ≡ engines → length spills ≡ engines → length spills' ≡ engines → RoseOfOne state faults engines meters meters' spills spills' → OneCountRose faults meters meters' ⊎ OneRose state spills spills'
   rose_of_one many many' spills_many spills_many' one =
       let w : ℕ = one.0 in
       let below : w < engines = one.1 in
       let m : M = some_of meters w (omega arith) in
       let d : D = some_of spills w (omega arith) in
-      elim (one.2 m d) as (λ _. MeterRose faults meters meters' ⊎ OneRose state spills spills') [
+      elim (one.2 m d) as (λ _. OneCountRose faults meters meters' ⊎ OneRose state spills spills') [
         | inl meter ↦ inl (w, omega arith, λ e. at_any (λ x y. Rose (faults x) (faults y)) meters meters' w m e (omega arith) (omega arith) meter)
         | inr spill ↦ inr (w, omega arith, λ e. at_any (λ x y. Rose (state x).faults (state y).faults) spills spills' w d e (omega arith) (omega arith) spill)
       ]

@@ -11,7 +11,7 @@ use Rattle.ports.specs.Disk.{DiskState, IsDisk}
 use Rattle.ports.proofs.Stops.{started}
 use Rattle.ports.proofs.Told.{as_told_same}
 use Rattle.ports.proofs.Rising.{one_rose_before}
-use Rattle.ports.specs.Devices.{OneRose, MetersGoOn}
+use Rattle.ports.specs.Devices.{OneRose, MetersGoOn, AreDevices, AreRows, OneCountRose}
 use Rattle.graph_model.specs.Rounds.{values}
 use Rattle.chunk_cursor.specs.declared.view.View.{View}
 use Rattle.chunk_file.specs.declared.index.Place.{Place}
@@ -25,7 +25,7 @@ use Rattle.replica_merge.specs.Accumulators.{split_of}
 use Rattle.apply_round.specs.Made.{AreMerged}
 use Rattle.scatter_epoch.specs.Scattering.{RowsGoOn}
 use Rattle.round_steps.specs.Crews.{LieWithin}
-use Rattle.round_steps.specs.Going.{AreDevices, AreRows, MeterRose, KeepsOthers, IsStore}
+use Rattle.round_steps.specs.Going.{KeepsOthers, IsStore}
 use Rattle.round_steps.specs.Standing.{StandsBefore, ValuesStand, HasEdges}
 use Rattle.round_steps.specs.Rounds.{StoresRound, MakesFirst, MakesEpochs}
 
@@ -40,7 +40,7 @@ module _ {M : Type 0} (faults : M → ℕ) where
   }
 
   -- a count that rose later rose
-  pub meter_rose_later : (old mid new : List M) → MetersGoOn faults old mid → MeterRose faults mid new → MeterRose faults old new
+  pub meter_rose_later : (old mid new : List M) → MetersGoOn faults old mid → OneCountRose faults mid new → OneCountRose faults old new
   meter_rose_later old mid new first rose = one_rose_before faults old mid new first.many first.later rose
 
 module _ {D : Type 0} (state : D → DiskState) where

@@ -8,7 +8,7 @@ use Rattle.graph_model.specs.Rounds.{values}
 use Rattle.gather_laws.specs.Laws.{HaveRoom}
 use Rattle.ports.specs.Disk.{DiskState}
 use Rattle.ports.specs.Faults.{Rose}
-use Rattle.ports.specs.Devices.{OneRose}
+use Rattle.ports.specs.Devices.{OneRose, AreDevices, AreRows, OneRowRose, OneCountRose}
 use Rattle.chunk_cursor.specs.declared.view.View.{View}
 use Rattle.chunk_model.specs.Layout.{edge_layout}
 use Rattle.chunk_file.specs.declared.index.Place.{Place}
@@ -26,7 +26,6 @@ use Rattle.scatter_epoch.specs.Scattering as scattering
 use Rattle.scatter_epoch.specs.Scattering.{HaveScattered, RoseOfOne}
 use Rattle.epoch_laws.specs.Phases.{edge_shelf, sending_in, sent_in}
 use Rattle.list_moves.proofs.Desks.{some_of}
-use Rattle.round_steps.specs.Going.{AreDevices, AreRows, RowRose, MeterRose}
 use Rattle.round_steps.specs.Rounds.{earlier_values}
 use Rattle.round_steps.specs.Standing.{IsSound, HasEdges}
 use Rattle.round_steps.specs.Updates.{Scatters}
@@ -43,13 +42,13 @@ module _ {D : Type 0} (state : D → DiskState) where
   }
 
 module _ {D M : Type 0} (state : D → DiskState) (faults : M → ℕ) (engines : ℕ) (meters meters' : List M) (rows rows' : List (Vec D Global)) where
-  pub row_rose : length meters ≡ engines → length meters' ≡ engines → length rows ≡ engines → length rows' ≡ engines → RoseOfOne state faults engines meters meters' rows rows' → MeterRose faults meters meters' ⊎ RowRose state rows rows'
+  pub row_rose : length meters ≡ engines → length meters' ≡ engines → length rows ≡ engines → length rows' ≡ engines → RoseOfOne state faults engines meters meters' rows rows' → OneCountRose faults meters meters' ⊎ OneRowRose state rows rows'
   row_rose many many' rows_many rows_many' one =
       let w : ℕ = one.0 in
       let below : w < engines = one.1 in
       let m : M = some_of meters w (omega arith) in
       let row : Vec D Global = some_of rows w (omega arith) in
-      elim (one.2 m row) as (λ _. MeterRose faults meters meters' ⊎ RowRose state rows rows') [
+      elim (one.2 m row) as (λ _. OneCountRose faults meters meters' ⊎ OneRowRose state rows rows') [
         | inl meter ↦ inl (w, omega arith, λ e. at_any (λ x y. Rose (faults x) (faults y)) meters meters' w m e (omega arith) (omega arith) meter)
         | inr lane ↦ inr (w, omega arith, λ e. at_any (λ (x y : Vec D Global). OneRose state x.items y.items) rows rows' w row e (omega arith) (omega arith) lane)
       ]

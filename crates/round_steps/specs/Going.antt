@@ -5,7 +5,7 @@ use Rattle.ports.specs.Disk.{DiskState, IsSettled, InEveryImage}
 use Rattle.ports.specs.Faults.{Rose}
 use Rattle.ports.specs.Stops.{Leaves}
 use Rattle.ports.specs.Told.{AsTold}
-use Rattle.ports.specs.Devices.{OneRose, NoneRose, NoMeterRose}
+use Rattle.ports.specs.Devices.{OneRose, NoneRose, NoRowRose, SameCounts}
 use Rattle.partitioner.specs.declared.split.Split.{Split}
 use Rattle.store_model.specs.Slots.{device_size, slot_of}
 use Rattle.store_reader.specs.Reading.{own_in}
@@ -13,30 +13,12 @@ use Rattle.store_reader.specs.declared.store.Store.{Store}
 use Rattle.update_lanes.specs.Lanes.{GoOn}
 use Rattle.checkpoint.specs.SlotStates.{SameOther, IsOpenWith}
 use Rattle.checkpoint.specs.Storing.{KeepsOther}
-use Rattle.scatter_epoch.specs.Scattering.{RowsGoOn, NoRowRose}
-
--- that of one of them rose
-abbrev pub MeterRose : {M : Type 0} → (M → ℕ) → (old new : List M) → Type 0
-MeterRose {M} faults old new = (w : ℕ) × (w < length old) × ((m : M) → Rose (faults (slice_index_or old w m)) (faults (slice_index_or new w m)))
+use Rattle.scatter_epoch.specs.Scattering.{RowsGoOn}
 
 module _ {D : Type 0} (state : D → DiskState) where
-  -- so many devices, to which nothing was written under a later beat
-  pub record AreDevices (many number : ℕ) (devices : List D) : Type 0 where
-    pub all : length devices ≡ many
-    pub beats : (e : ℕ) (d : D) → e < many → (state (slice_index_or devices e d)).beat ≤ number
-
-  -- such a list of lanes for each worker
-  pub record AreRows (many number : ℕ) (rows : List (Vec D Global)) : Type 0 where
-    pub all : length rows ≡ many
-    pub each : (w : ℕ) (row : Vec D Global) → w < many → AreDevices many number (slice_index_or rows w row).items
-
   -- they tell their bytes
   abbrev pub Tell : List D → Type 0
   Tell devices = (e : ℕ) (d : D) → e < length devices → (bytes : List ℕ) × ((state (slice_index_or devices e d)).bytes ≡ Some bytes)
-
-  -- the count of one lane rose
-  abbrev pub RowRose : (old new : List (Vec D Global)) → Type 0
-  RowRose old new = (w : ℕ) × (w < length old) × ((row : Vec D Global) → OneRose state (slice_index_or old w row).items (slice_index_or new w row).items)
 
   -- the round stands in an open slot of the values device of each engine, in every image, whatever its values are
   abbrev pub IsOpenEverywhere : Split → (round : ℕ) → List D → Type 0
@@ -71,7 +53,7 @@ module _ {D M : Type 0} (state : D → DiskState) where
   -- a count of a device or of a meter rose
   abbrev pub SomeRose : (faults : M → ℕ) → (old new : Store D M) → (meters meters' : List M) → Type 0
   SomeRose faults old new meters meters' =
-      MeterRose faults meters meters' ⊎ (OneRose state old.values.items new.values.items ⊎ (RowRose state old.lanes.items new.lanes.items ⊎ OneRose state old.spills.items new.spills.items))
+      OneCountRose faults meters meters' ⊎ (OneRose state old.values.items new.values.items ⊎ (OneRowRose state old.lanes.items new.lanes.items ⊎ OneRose state old.spills.items new.spills.items))
 
   -- that of no device rose: each stands as it was
   pub record NoDeviceRose (old new : Store D M) : Type 0 where
@@ -81,4 +63,4 @@ module _ {D M : Type 0} (state : D → DiskState) where
 
   -- nor that of a meter
   abbrev pub NoCountRose : (faults : M → ℕ) → (old new : Store D M) → (meters meters' : List M) → Type 0
-  NoCountRose faults old new meters meters' = NoMeterRose faults meters meters' × NoDeviceRose old new
+  NoCountRose faults old new meters meters' = SameCounts faults meters meters' × NoDeviceRose old new

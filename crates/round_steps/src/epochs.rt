@@ -11,9 +11,9 @@ ghost use Rattle.store_reader.specs.Indexed.{lens_of};
 ghost use Rattle.update_lanes.specs.Lanes.{GoOn};
 ghost use Rattle.epoch_seats.specs.Between.{IsBetweenEpochs};
 ghost use Rattle.apply_round.specs.Made.{AreMerged};
-ghost use Rattle.ports.specs.Devices.{OneRose, NoneRose, NoMeterRose, MetersGoOn};
+ghost use Rattle.ports.specs.Devices.{OneRose, NoneRose, MetersGoOn, AreDevices, OneCountRose, SameCounts};
 ghost use Rattle.round_steps.specs.Crews.{AreCrews, LieWithin};
-ghost use Rattle.round_steps.specs.Going.{AreDevices, MeterRose, Tell};
+ghost use Rattle.round_steps.specs.Going.{Tell};
 ghost use Rattle.round_steps.specs.Standing.{IsSound, HaveEdges, HasEdges};
 ghost use Rattle.round_steps.specs.Damage.{IsEdgeDamage, NamesDamage};
 ghost use Rattle.round_steps.specs.Rounds.{MakesFirst, HasSums};
@@ -56,8 +56,8 @@ pub(crate) fn sum_first<R: Threads + Sync, P: VertexProgram, D: Disk, G: Gate + 
     ensures room { vec_capacity meters.old ≤ vec_capacity meters.new }
     ensures few { result.admitted ≤ 512 }
     ensures table { seat.new.table ≡ seat.old.table }
-    ensures cause { result.outcome ≡ Outcome.DiskFault → MeterRose D.M.faults meters.old.items meters.new.items ⊎ OneRose D.state spills.old.items spills.new.items }
-    ensures calm { result.outcome ≡ Outcome.Done → NoMeterRose D.M.faults meters.old.items meters.new.items × NoneRose D.state spills.old.items spills.new.items }
+    ensures cause { result.outcome ≡ Outcome.DiskFault → OneCountRose D.M.faults meters.old.items meters.new.items ⊎ OneRose D.state spills.old.items spills.new.items }
+    ensures calm { result.outcome ≡ Outcome.Done → SameCounts D.M.faults meters.old.items meters.new.items × NoneRose D.state spills.old.items spills.new.items }
     ensures sound { (records : ℕ → ℕ → List Edge) → HaveEdges D.state run.now.job.now run.now.split.now run.now.index.now graphs.now records → IsSound result.outcome }
     ensures damaged { NamesDamage (IsEdgeDamage D.state run.now.job.now run.now.split.now run.now.index.now graphs.now) result.outcome }
     ensures epochs { MakesFirst (P.rules run.now.program.now).counts run.now.job.now run.now.index.now (result.outcome ≡ Outcome.Done) seat.old.view seat.new.view result.claims result.admitted }
@@ -103,8 +103,8 @@ fn count_edges<R: Threads + Sync, P: VertexProgram, D: Disk, G: Gate + Sync>(
     ensures room { vec_capacity meters.old ≤ vec_capacity meters.new }
     ensures few { result.admitted ≤ 512 }
     ensures table { seat.new.table ≡ seat.old.table }
-    ensures cause { result.outcome ≡ Outcome.DiskFault → MeterRose D.M.faults meters.old.items meters.new.items ⊎ OneRose D.state spills.old.items spills.new.items }
-    ensures calm { result.outcome ≡ Outcome.Done → NoMeterRose D.M.faults meters.old.items meters.new.items × NoneRose D.state spills.old.items spills.new.items }
+    ensures cause { result.outcome ≡ Outcome.DiskFault → OneCountRose D.M.faults meters.old.items meters.new.items ⊎ OneRose D.state spills.old.items spills.new.items }
+    ensures calm { result.outcome ≡ Outcome.Done → SameCounts D.M.faults meters.old.items meters.new.items × NoneRose D.state spills.old.items spills.new.items }
     ensures sound { (records : ℕ → ℕ → List Edge) → HaveEdges D.state run.now.job.now run.now.split.now run.now.index.now graphs.now records → IsSound result.outcome }
     ensures damaged { NamesDamage (IsEdgeDamage D.state run.now.job.now run.now.split.now run.now.index.now graphs.now) result.outcome }
     ensures epochs { MakesFirst true run.now.job.now run.now.index.now (result.outcome ≡ Outcome.Done) seat.old.view seat.new.view result.claims result.admitted }

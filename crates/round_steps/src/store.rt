@@ -9,9 +9,9 @@ ghost use Rattle.store_reader.specs.Reading.{own_in};
 ghost use Rattle.apply_round.specs.Made.{AreMerged, made};
 ghost use Rattle.replica_merge.specs.Accumulators.{split_of};
 ghost use Rattle.apply_round.specs.Crew.{IsCrewOf};
-ghost use Rattle.ports.specs.Devices.{OneRose, NoneRose, NoMeterRose, MetersGoOn};
+ghost use Rattle.ports.specs.Devices.{OneRose, NoneRose, MetersGoOn, AreDevices, OneCountRose, SameCounts};
 ghost use Rattle.round_steps.specs.Crews.{LieWithin};
-ghost use Rattle.round_steps.specs.Going.{AreDevices, KeepsOthers, MeterRose};
+ghost use Rattle.round_steps.specs.Going.{KeepsOthers};
 ghost use Rattle.round_steps.specs.Standing.{IsSound, StandsBefore};
 ghost use Rattle.round_steps.specs.Rounds.{StoresRound};
 
@@ -47,8 +47,8 @@ pub(crate) fn store_round<R: Threads + Sync, P: VertexProgram, D: Disk, G: Gate 
     ensures crew { IsCrewOf run.now.split.now crew.new }
     ensures meters { MetersGoOn D.M.faults meters.old.items meters.new.items }
     ensures room { vec_capacity meters.old ≤ vec_capacity meters.new }
-    ensures cause { result.outcome ≡ Outcome.DiskFault → MeterRose D.M.faults meters.old.items meters.new.items ⊎ OneRose D.state values.old.items values.new.items }
-    ensures calm { result.outcome ≡ Outcome.Done → NoMeterRose D.M.faults meters.old.items meters.new.items × NoneRose D.state values.old.items values.new.items }
+    ensures cause { result.outcome ≡ Outcome.DiskFault → OneCountRose D.M.faults meters.old.items meters.new.items ⊎ OneRose D.state values.old.items values.new.items }
+    ensures calm { result.outcome ≡ Outcome.Done → SameCounts D.M.faults meters.old.items meters.new.items × NoneRose D.state values.old.items values.new.items }
     ensures sound { IsSound result.outcome }
     ensures keeps { KeepsOthers D.state run.now.split.now round beat.now (result.outcome ≡ Outcome.Done) values.old.items values.new.items }
     ensures stored { (edges : List Edge) (numbers : ℕ → ℕ) → IsWithinGraph run.now.split.now.vertices edges

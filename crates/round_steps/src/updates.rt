@@ -13,11 +13,11 @@ ghost use Rattle.update_lanes.specs.Lanes.{GoOn};
 ghost use Rattle.epoch_seats.specs.Between.{IsBetweenEpochs};
 ghost use Rattle.replica_merge.specs.Accumulators.{split_of};
 ghost use Rattle.gather_epoch.specs.Crews.{IsCrew};
-ghost use Rattle.ports.specs.Devices.{OneRose, NoneRose, NoMeterRose, MetersGoOn};
-ghost use Rattle.scatter_epoch.specs.Scattering.{RowsGoOn, NoRowRose};
+ghost use Rattle.ports.specs.Devices.{OneRose, NoneRose, MetersGoOn, AreDevices, AreRows, OneRowRose, OneCountRose, NoRowRose, SameCounts};
+ghost use Rattle.scatter_epoch.specs.Scattering.{RowsGoOn};
 ghost use Rattle.scatter_epoch.specs.Sent.{RowsTell};
 ghost use Rattle.round_steps.specs.Crews.{AreCrews, LieWithin};
-ghost use Rattle.round_steps.specs.Going.{AreDevices, AreRows, RowRose, MeterRose, IsStore};
+ghost use Rattle.round_steps.specs.Going.{IsStore};
 ghost use Rattle.round_steps.specs.Standing.{IsSound, HaveEdges, IsBefore};
 ghost use Rattle.round_steps.specs.Damage.{IsEdgeDamage, IsUpdateDamage, IsDamage, NamesDamage};
 ghost use Rattle.round_steps.specs.Rounds.{MakesEpochs, HasSums};
@@ -70,8 +70,8 @@ pub(crate) fn sum_round<R: Threads + Sync, P: VertexProgram, D: Disk, G: Gate + 
     ensures room { vec_capacity meters.old ≤ vec_capacity meters.new }
     ensures few { result.admitted ≤ 1024 }
     ensures table { seat.new.table ≡ seat.old.table }
-    ensures cause { result.outcome ≡ Outcome.DiskFault → MeterRose D.M.faults meters.old.items meters.new.items ⊎ (RowRose D.state store.old.lanes.items store.new.lanes.items ⊎ OneRose D.state store.old.spills.items store.new.spills.items) }
-    ensures calm { result.outcome ≡ Outcome.Done → NoMeterRose D.M.faults meters.old.items meters.new.items × NoRowRose D.state store.old.lanes.items store.new.lanes.items × NoneRose D.state store.old.spills.items store.new.spills.items }
+    ensures cause { result.outcome ≡ Outcome.DiskFault → OneCountRose D.M.faults meters.old.items meters.new.items ⊎ (OneRowRose D.state store.old.lanes.items store.new.lanes.items ⊎ OneRose D.state store.old.spills.items store.new.spills.items) }
+    ensures calm { result.outcome ≡ Outcome.Done → SameCounts D.M.faults meters.old.items meters.new.items × NoRowRose D.state store.old.lanes.items store.new.lanes.items × NoneRose D.state store.old.spills.items store.new.spills.items }
     ensures sound { (records : ℕ → ℕ → List Edge) → HaveEdges D.state run.now.job.now run.now.split.now run.now.index.now store.old.graphs.items records → RowsTell D.state store.old.lanes.items → IsSound result.outcome }
     ensures damaged { NamesDamage (IsDamage D.state run.now.job.now run.now.split.now run.now.index.now store.old.graphs.items store.new.lanes.items) result.outcome }
     ensures epochs { MakesEpochs D.state (P.rules run.now.program.now) run.now.job.now run.now.split.now run.now.index.now round changed_only epoch store.old (result.outcome ≡ Outcome.Done) seat.old.view seat.new.view result.claims result.admitted }
@@ -154,8 +154,8 @@ pub(crate) fn scatter_edges<R: Threads + Sync, P: VertexProgram, D: Disk, G: Gat
     ensures few { (result.claims ≤ 17592186044416) × (result.admitted ≤ 512) }
     ensures table { seat.new.table ≡ seat.old.table }
     ensures between { IsBetweenEpochs seat.new.view }
-    ensures cause { result.outcome ≡ Outcome.DiskFault → MeterRose D.M.faults meters.old.items meters.new.items ⊎ RowRose D.state lanes.old.items lanes.new.items }
-    ensures calm { result.outcome ≡ Outcome.Done → NoMeterRose D.M.faults meters.old.items meters.new.items × NoRowRose D.state lanes.old.items lanes.new.items }
+    ensures cause { result.outcome ≡ Outcome.DiskFault → OneCountRose D.M.faults meters.old.items meters.new.items ⊎ OneRowRose D.state lanes.old.items lanes.new.items }
+    ensures calm { result.outcome ≡ Outcome.Done → SameCounts D.M.faults meters.old.items meters.new.items × NoRowRose D.state lanes.old.items lanes.new.items }
     ensures sound { (records : ℕ → ℕ → List Edge) → HaveEdges D.state run.now.job.now run.now.split.now run.now.index.now graphs.now records → IsSound result.outcome }
     ensures damaged { NamesDamage (IsEdgeDamage D.state run.now.job.now run.now.split.now run.now.index.now graphs.now) result.outcome }
     ensures scattered { Scatters D.M D.state (P.rules run.now.program.now) run.now.job.now run.now.split.now run.now.index.now graphs.now values.now round changed_only epoch lanes.new.items crews.new.updates (result.outcome ≡ Outcome.Done) seat.old.view seat.new.view result.claims result.admitted }
@@ -232,8 +232,8 @@ pub(crate) fn gather_updates<R: Threads + Sync, P: VertexProgram, D: Disk, G: Ga
     ensures few { (result.claims ≤ 17592186044416) × (result.admitted ≤ 512) }
     ensures table { seat.new.table ≡ seat.old.table }
     ensures between { IsBetweenEpochs seat.new.view }
-    ensures cause { result.outcome ≡ Outcome.DiskFault → MeterRose D.M.faults meters.old.items meters.new.items ⊎ OneRose D.state spills.old.items spills.new.items }
-    ensures calm { result.outcome ≡ Outcome.Done → NoMeterRose D.M.faults meters.old.items meters.new.items × NoneRose D.state spills.old.items spills.new.items }
+    ensures cause { result.outcome ≡ Outcome.DiskFault → OneCountRose D.M.faults meters.old.items meters.new.items ⊎ OneRose D.state spills.old.items spills.new.items }
+    ensures calm { result.outcome ≡ Outcome.Done → SameCounts D.M.faults meters.old.items meters.new.items × NoneRose D.state spills.old.items spills.new.items }
     ensures sound { (shelf : Chunks Update) → Stand D.M D.state run.now.job.now run.now.split.now lanes.now updates.now shelf → IsSound result.outcome }
     ensures damaged { NamesDamage (IsUpdateDamage D.state run.now.job.now run.now.split.now lanes.now) result.outcome }
     ensures within { result.outcome ≡ Outcome.Done → LieWithin D.state replicas.new.items spills.new.items }

@@ -9,7 +9,8 @@ use Rattle.mem_devices.specs.MemDisk.{disk_state}
 use Rattle.store_model.specs.Slots.{device_size}
 use Rattle.store_model.specs.Kept.{own_of}
 use Rattle.store_reader.specs.declared.store.Store.{Store}
-use Rattle.round_steps.specs.Going.{AreDevices, AreRows, IsStore}
+use Rattle.ports.specs.Devices.{AreDevices, AreRows}
+use Rattle.round_steps.specs.Going.{IsStore}
 use Rattle.partitioner.specs.Splits.{split_for}
 
 pub store_is : {M : Type 0} (job : Job) (number : ℕ) (store : Store MemDisk M) (lanes : Vec (Vec MemDisk Global) Global) (spills : Vec MemDisk Global) → store.lanes ≡ lanes → store.spills ≡ spills

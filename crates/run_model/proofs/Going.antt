@@ -8,10 +8,10 @@ use Rattle.std.proofs.lemmas.List.{get_or_default, get_or-set_same, get_or-set_o
 use Rattle.std.proofs.lemmas.List.Elements.{All-nil, All-get_or, All-from_get_or}
 use Rattle.ports.specs.Disk.{DiskState}
 use Rattle.ports.proofs.Told.{told_on}
-use Rattle.ports.specs.Devices.{MetersGoOn}
+use Rattle.ports.specs.Devices.{MetersGoOn, AreDevices, AreRows, OneRowRose}
 use Rattle.storage_engine.specs.Steps.{Any, IsLater}
 use Rattle.store_reader.specs.declared.store.Store.{Store}
-use Rattle.round_steps.specs.Going.{AreDevices, AreRows, RowRose, SomeRose}
+use Rattle.round_steps.specs.Going.{SomeRose}
 use Rattle.round_steps.proofs.Kept.{meter_rose_later}
 use Rattle.round_loop.specs.Keeping.{AreLater, AreLaterRows, Keeps}
 use Rattle.round_loop.proofs.Keeping.{same_devices, then_devices, same_rows, then_rows, rose_after}
@@ -61,7 +61,7 @@ module _ {D : Type 0} (state : D → DiskState) where
       by (x ∷ ds) all beats = All-from_get_or (λ (d : D). (state d).beat ≤ n) (x ∷ ds) x (λ i below. beats i x (omega (arith, below, all)))
 
   -- a count that rose later rose
-  pub row_rose_later : (olds mids news : List (Vec D Global)) → AreLaterRows state olds mids → RowRose state mids news → RowRose state olds news
+  pub row_rose_later : (olds mids news : List (Vec D Global)) → AreLaterRows state olds mids → OneRowRose state mids news → OneRowRose state olds news
   row_rose_later olds mids news first rose = (
     rose.0,
     omega (arith, rose.1, first.many),

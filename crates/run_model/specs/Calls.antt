@@ -1,11 +1,11 @@
 -- What can be seen of a call on a store, and what it asks of the devices that it is handed.
 use Rattle.std.specs.Prelude.{◌≡◌, ◌⊎◌, ℕ, ◌+◌, ◌≤◌, List, length, Option, Some}
 use Rattle.ports.specs.Disk.{DiskState}
-use Rattle.ports.specs.Devices.{OneRose, NoneRose, MetersGoOn}
+use Rattle.ports.specs.Devices.{OneRose, NoneRose, MetersGoOn, AreDevices, AreRows}
 use Rattle.store_checks.specs.Causes.{Tell}
 use Rattle.store_reader.specs.declared.store.Store.{Store}
 use Rattle.epoch_seats.specs.Between.{IsBetweenEpochs}
-use Rattle.round_steps.specs.Going.{AreDevices, AreRows, SomeRose, NoCountRose}
+use Rattle.round_steps.specs.Going.{SomeRose, NoCountRose}
 use Rattle.round_loop.specs.Keeping.{AreLater, AreLaterRows, IsTold, Moment}
 
 -- The bytes that the source has left and that `out` has got, where they tell them, their counts of faults, and all that

@@ -7,7 +7,7 @@ use Rattle.std.proofs.lemmas.List.{get_or-map, length-map}
 use Rattle.graph_model.specs.Programs.{Rules}
 use Rattle.ports.specs.Disk.{DiskState}
 use Rattle.ports.specs.Faults.{Rose}
-use Rattle.ports.specs.Devices.{OneRose, NoneRose, NoMeterRose, MetersGoOn}
+use Rattle.ports.specs.Devices.{OneRose, NoneRose, MetersGoOn, NoRowRose, SameCounts}
 use Rattle.chunk_object.specs.History.{most_chunks}
 use Rattle.chunk_object.specs.Epochs.{Terms, list_of}
 use Rattle.chunk_object.specs.Duty.{IsDutiful}
@@ -37,7 +37,7 @@ use Rattle.epoch_seats.proofs.Made.{list_is}
 use Rattle.list_moves.proofs.Desks.{some_of, at_desk, same_len, listed, same_by}
 use Rattle.scatter_epoch.specs.Desks.{IsReady, HasWorkedAt}
 use Rattle.scatter_epoch.specs.Dealing.{seat_at, meter_at, lanes_at, places_on, room_at, number_at, outcome_at, claims_at, admitted_at, AreDealt}
-use Rattle.scatter_epoch.specs.Scattering.{AreRows, RowsGoOn, NoRowRose, SomeRose, RoseOfOne, HasScatteredAs, HaveScattered}
+use Rattle.scatter_epoch.specs.Scattering.{AreRows, RowsGoOn, SomeRose, RoseOfOne, HasScatteredAs, HaveScattered}
 use Rattle.scatter_epoch.specs.Sent.{HaveSent}
 use Rattle.scatter_epoch.specs.declared.crew.Scattered.{Scattered}
 
@@ -190,7 +190,7 @@ module _ {P D G M : Type 0} (rules : P → Rules) (state : D → DiskState) (fau
       done_at : lowest_outcome all_outcomes ≡ Done → (w : ℕ) (d : ScatterDesk D M) → w < length done → outcome_at (get_or done w d) ≡ Done
       done_at through w d below = sym (get_or-map outcome_at done w d Done below) ∙ all_done all_outcomes through w Done (omega (arith, length-map done outcome_at))
 
-      pub none_rose : lowest_outcome all_outcomes ≡ Done → NoMeterRose faults meters meters' × NoRowRose state rows rows'
+      pub none_rose : lowest_outcome all_outcomes ≡ Done → SameCounts faults meters meters' × NoRowRose state rows rows'
       none_rose through = (
         same_by faults meters meters' counts_go_on.many (λ w m below.
             let inside : w < the_terms.engines = omega (arith, same_len meter_at desks meters dealt.meters_are, all_desks) in
@@ -223,7 +223,7 @@ module _ {P D G M : Type 0} (rules : P → Rules) (state : D → DiskState) (fau
         pub cause : result.outcome ≡ DiskFault → RoseOfOne state faults the_terms.engines meters meters' rows rows'
         cause fault = ⊎_elim (λ same. rose_of (sym same ∙ fault)) (λ both. let memory = both.1 in let no : ⊥ = cc (memory, fault) in absurd no) ended_as
 
-        pub calm : result.outcome ≡ Done → NoMeterRose faults meters meters' × NoRowRose state rows rows'
+        pub calm : result.outcome ≡ Done → SameCounts faults meters meters' × NoRowRose state rows rows'
         calm is = none_rose (through is)
 
         pub stopped : result.outcome ≢ Done → MayStopBy rules state c result.outcome

@@ -16,7 +16,6 @@ use Rattle.store_reader.specs.declared.store.Outcome.TheVariants.{Done, DiskFaul
 use Rattle.store_reader.specs.Indexed.{lens_of}
 use Rattle.update_lanes.specs.Lanes.{GoOn}
 use Rattle.scatter_phase.specs.declared.desk.ScatterContext.{ScatterContext}
-use Rattle.scatter_phase.specs.Rooms.{AreLanes}
 use Rattle.scatter_phase.specs.Phases.{MayStopBy}
 use Rattle.worker_outcomes.specs.Lowest.{lowest_outcome}
 use Rattle.epoch_seats.specs.Made.{HasMadeEpoch}
@@ -24,19 +23,10 @@ use Rattle.scatter_epoch.specs.declared.crew.Scattered.{Scattered}
 use Rattle.scatter_epoch.specs.Sent.{HaveSent}
 
 module _ {D : Type 0} (state : D → DiskState) where
-  -- a row of lanes for each worker, with a lane on each engine, to which nothing was written under a later beat
-  pub record AreRows (engines number : ℕ) (rows : List (Vec D Global)) : Type 0 where
-    pub many : length rows ≡ engines
-    pub each : (w : ℕ) (row : Vec D Global) → w < length rows → AreLanes state engines number (slice_index_or rows w row).items
-
   -- the rows of lanes go on, each in its place
   pub record RowsGoOn (number : ℕ) (old new : List (Vec D Global)) : Type 0 where
     pub many : length new ≡ length old
     pub each : (w : ℕ) (row : Vec D Global) → w < length old → GoOn state number (slice_index_or old w row).items (slice_index_or new w row).items
-
-  -- and the count of none of their lanes rose
-  abbrev pub NoRowRose : (olds news : List (Vec D Global)) → Type 0
-  NoRowRose olds news = map (λ (row : Vec D Global). map (λ (x : D). (state x).faults) row.items) news ≡ map (λ (row : Vec D Global). map (λ (x : D). (state x).faults) row.items) olds
 
 module _ {D M : Type 0} (state : D → DiskState) (faults : M → ℕ) where
   -- the count of a worker's meter or of one of its lanes rose

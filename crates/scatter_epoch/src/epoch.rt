@@ -5,11 +5,11 @@ ghost use Rattle.phase_model.specs.declared.placed.Placed.{Placed as PlacedOf};
 ghost use Rattle.update_lanes.specs.Lanes.{IsWithin};
 ghost use Rattle.scatter_phase.specs.Phases.{MayStopBy};
 ghost use Rattle.epoch_seats.specs.Between.{IsBetweenEpochs};
-ghost use Rattle.ports.specs.Devices.{NoMeterRose, MetersGoOn};
+ghost use Rattle.ports.specs.Devices.{MetersGoOn, NoRowRose, SameCounts};
 ghost use Rattle.scatter_epoch.specs.Crews.{IsCrew};
 ghost use Rattle.scatter_epoch.specs.Joining.{IsIndexOf};
 ghost use Rattle.scatter_epoch.specs.Desks.{IsContext, IsReady, HasWorkedAt};
-ghost use Rattle.scatter_epoch.specs.Scattering.{AreRows, RowsGoOn, NoRowRose, RoseOfOne, HaveScattered};
+ghost use Rattle.scatter_epoch.specs.Scattering.{AreRows, RowsGoOn, RoseOfOne, HaveScattered};
 
 use crate::crew::{ScatterCrew, Scattered};
 use crate::index::index_places;
@@ -51,7 +51,7 @@ pub fn scatter_all<R: Threads + Sync, P: VertexProgram, D: Disk, G: Gate + Sync>
     ensures room { (vec_capacity meters.old ≤ vec_capacity meters.new) × (vec_capacity lanes.old ≤ vec_capacity lanes.new) }
     ensures few { (result.claims ≤ 1099511627776) × (result.admitted ≤ 512) }
     ensures cause { result.outcome ≡ Outcome.DiskFault → RoseOfOne D.state D.M.faults context.now.serving.job.now.engines meters.old.items meters.new.items lanes.old.items lanes.new.items }
-    ensures calm { result.outcome ≡ Outcome.Done → NoMeterRose D.M.faults meters.old.items meters.new.items × NoRowRose D.state lanes.old.items lanes.new.items }
+    ensures calm { result.outcome ≡ Outcome.Done → SameCounts D.M.faults meters.old.items meters.new.items × NoRowRose D.state lanes.old.items lanes.new.items }
     ensures stopped { result.outcome ≢ Outcome.Done → MayStopBy P.rules D.state context.now result.outcome }
     // What was done.
     ensures scattered { HaveScattered P.rules D.state D.M.faults context.now seat.old.view seat.new.view meters.old.items meters.new.items lanes.old.items lanes.new.items updates.new result }

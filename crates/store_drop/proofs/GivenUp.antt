@@ -6,13 +6,11 @@ use Rattle.std.specs.List.{All}
 use Rattle.std.proofs.lemmas.List.Elements.{All-nil, All-from_get_or}
 use Rattle.ports.specs.Disk.{DiskState}
 use Rattle.ports.specs.Stops.{IsStop, AreImages}
-use Rattle.ports.specs.Devices.{Each, OneRose, MetersGoOn}
+use Rattle.ports.specs.Devices.{Each, OneRose, MetersGoOn, AreDevices, AreRows, OneCountRose, EachRow, OneRowRose}
 use Rattle.store_model.specs.Kept.{IsUnprepared}
 use Rattle.epoch_seats.specs.Between.{IsBetweenEpochs}
-use Rattle.restart.specs.Devices.{EachRow, OneRowRose}
 use Rattle.restart.specs.Dropping.{HandsBack}
 use Rattle.round_loop.specs.Keeping.{AreLater, AreLaterRows}
-use Rattle.round_steps.specs.Going.{AreDevices, AreRows, MeterRose}
 use Rattle.endings.specs.declared.ending.Ending.{Ending}
 use Rattle.endings.specs.declared.ending.Ending.TheVariants.{Dropped, DiskFault}
 use Rattle.run_model.specs.Calls.{Call, IsReady, AnyRose, AreStill, NoneFailed, IsBack}
@@ -34,7 +32,7 @@ module _ {D : Type 0} (state : D → DiskState) where
   devices_back : (many before n : ℕ) (olds news : List D) → AreDevices state many before olds → Each state (HandsBack n) olds news → AreDevices state many n news
   devices_back many before n olds news are back = record { all = back.many ∙ are.all; beats = λ e d below. (back.each e d (omega (arith, below, are.all))).beat }
 
-  rows_back : (many before n : ℕ) (olds news : List (Vec D Global)) → AreRows state many before olds → EachRow (λ row. row.items) state (HandsBack n) olds news → AreRows state many n news
+  rows_back : (many before n : ℕ) (olds news : List (Vec D Global)) → AreRows state many before olds → EachRow state (HandsBack n) olds news → AreRows state many n news
   rows_back many before n olds news are back = record {
     all = back.many ∙ are.all;
     each = λ w row below. devices_back many before n (get_or olds w row).items (get_or news w row).items (are.each w row below) (back.each w row (omega (arith, below, are.all)));
@@ -44,7 +42,7 @@ module _ {D : Type 0} (state : D → DiskState) where
   devices_later : (n : ℕ) (olds news : List D) → Each state (HandsBack n) olds news → AreLater state olds news
   devices_later n olds news back = record { many = back.many; faults = λ e d below. (back.each e d below).faults; told = λ e d bytes below. (back.each e d below).told bytes }
 
-  rows_later : (n : ℕ) (olds news : List (Vec D Global)) → EachRow (λ row. row.items) state (HandsBack n) olds news → AreLaterRows state olds news
+  rows_later : (n : ℕ) (olds news : List (Vec D Global)) → EachRow state (HandsBack n) olds news → AreLaterRows state olds news
   rows_later n olds news back = record { many = back.many; each = λ w row below. devices_later n (get_or olds w row).items (get_or news w row).items (back.each w row below) }
 
 module _ {D M : Type 0} (state : D → DiskState) (faults : M → ℕ) (call : Call D M) (engines : ℕ) (some : 1 ≤ engines) (ready : IsReady state engines call.before) (on : MetersGoOn faults call.before.meters call.after.meters)
@@ -52,7 +50,7 @@ module _ {D M : Type 0} (state : D → DiskState) (faults : M → ℕ) (call : C
     (beat : (call.after.beat ≡ call.before.beat) ⊎ (call.after.beat ≡ call.before.beat + 1))
     (graphs : Each state (HandsBack call.after.beat) call.before.store.graphs.items call.after.store.graphs.items)
     (values : Each state (HandsBack call.after.beat) call.before.store.values.items call.after.store.values.items)
-    (lanes : EachRow (λ row. row.items) state (HandsBack call.after.beat) call.before.store.lanes.items call.after.store.lanes.items)
+    (lanes : EachRow state (HandsBack call.after.beat) call.before.store.lanes.items call.after.store.lanes.items)
     (spills : Each state (HandsBack call.after.beat) call.before.store.spills.items call.after.store.spills.items)
     (stops : (b : ℕ) (images others : List (List ℕ)) → b ≤ call.after.beat → 0 < length call.before.store.graphs.items
     → IsStop b (map state call.before.store.graphs.items) (map state call.after.store.graphs.items) images → IsStop b (map state call.before.store.values.items) (map state call.after.store.values.items) others
@@ -98,17 +96,17 @@ module _ {D M : Type 0} (state : D → DiskState) (faults : M → ℕ) (call : C
   dropped empty still = is_drop Dropped empty (λ _. record { reads = no_reads; writes = no_writes; devices = still })
 
   -- **A count rose.**
-  pub not_dropped : (read : Type 0) → (read → MeterRose faults call.before.meters call.after.meters) → read
+  pub not_dropped : (read : Type 0) → (read → OneCountRose faults call.before.meters call.after.meters) → read
       ⊎ OneRose state call.before.store.graphs.items call.after.store.graphs.items
       ⊎ OneRose state call.before.store.values.items call.after.store.values.items
-      ⊎ OneRowRose (λ row. row.items) state call.before.store.lanes.items call.after.store.lanes.items
+      ⊎ OneRowRose state call.before.store.lanes.items call.after.store.lanes.items
       ⊎ OneRose state call.before.store.spills.items call.after.store.spills.items → IsDrop state faults call engines DiskFault
   not_dropped read among rose = is_drop DiskFault (any rose) (λ is. absurd (cc))
     where
       any : read
           ⊎ OneRose state call.before.store.graphs.items call.after.store.graphs.items
           ⊎ OneRose state call.before.store.values.items call.after.store.values.items
-          ⊎ OneRowRose (λ row. row.items) state call.before.store.lanes.items call.after.store.lanes.items
+          ⊎ OneRowRose state call.before.store.lanes.items call.after.store.lanes.items
           ⊎ OneRose state call.before.store.spills.items call.after.store.spills.items → AnyRose state faults call.before call.after
       any (inl meter) = inr (inl (among meter))
       any (inr (inl graph)) = inl graph

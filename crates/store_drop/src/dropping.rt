@@ -2,7 +2,7 @@
 ghost use Rattle.std.specs.Prelude.{◌≡◌, ℕ, ◌+◌, ◌^◌, ◌≤◌, Option, List, length};
 ghost use Rattle.chunk_cursor.specs.declared.view.View.{View};
 ghost use Rattle.epoch_seats.specs.Between.{IsBetweenEpochs};
-ghost use Rattle.round_steps.specs.Going.{AreDevices, AreRows};
+ghost use Rattle.ports.specs.Devices.{AreDevices, AreRows};
 ghost use Rattle.round_loop.specs.Keeping.{moment};
 ghost use Rattle.store_drop.specs.Drops.{IsDrop};
 

@@ -1,7 +1,7 @@
 -- A resume that made no round: the store was not recovered, or there was no memory.
 use Rattle.std.proofs.Common.{◌≡◌, ◌∙◌, inl, inr, ℕ, List, [], true, refl, sym, ap, subst, arith}
 use Rattle.ports.specs.Disk.{DiskState, IsDisk}
-use Rattle.ports.specs.Devices.{MetersGoOn}
+use Rattle.ports.specs.Devices.{MetersGoOn, AreDevices, AreRows, OneCountRose}
 use Rattle.graph_model.specs.declared.edge.Edge.{Edge}
 use Rattle.graph_model.specs.declared.job.Job.{Job}
 use Rattle.graph_model.specs.declared.job.Program.TheVariants.{Labels}
@@ -17,7 +17,6 @@ use Rattle.restart.specs.Resuming as restart
 use Rattle.restart.specs.Storable.{IsStorable}
 use Rattle.restart.proofs.OneFault.{one_fault}
 use Rattle.epoch_seats.specs.Between.{IsBetweenEpochs}
-use Rattle.round_steps.specs.Going.{AreDevices, AreRows, MeterRose}
 use Rattle.store_rounds.proofs.Places.{same_stop}
 use Rattle.store_rounds.proofs.Stores.{whole_open}
 use Rattle.endings.specs.declared.ending.Ending.{Ending}
@@ -88,7 +87,7 @@ module _ {D M : Type 0} (state : D → DiskState) (lawful : (d : D) → IsDisk (
   IsThere fault = (graphs values : List (List ℕ)) → Tell state call.before.store.graphs.items graphs → Tell state call.before.store.values.items values → HasFault graphs values fault
 
   abbrev HasFound : RecoverFault → Type 0
-  HasFound why = HasRecoverCause (MeterRose faults call.before.meters call.after.meters) IsThere why
+  HasFound why = HasRecoverCause (OneCountRose faults call.before.meters call.after.meters) IsThere why
 
   cause_of : (why : RecoverFault) → HasFound why → HasResumeCause state faults call (refusal why)
   cause_of recover.NotPrepared found = λ graphs values tell_graphs tell_values others. (damage.NotPrepared, found graphs values tell_graphs tell_values, refl)

@@ -4,7 +4,7 @@ use Rattle.std.specs.Prelude.{Vec}
 use Rattle.std.specs.Global.{Global}
 use Rattle.ports.specs.Disk.{DiskState, IsDisk, InEveryImage}
 use Rattle.ports.specs.Stops.{AreImages}
-use Rattle.ports.specs.Devices.{NoMeterRose, MetersGoOn}
+use Rattle.ports.specs.Devices.{MetersGoOn, AreDevices, AreRows, SameCounts}
 use Rattle.graph_model.specs.declared.edge.Edge.{Edge}
 use Rattle.graph_model.specs.declared.job.Job.{Job}
 use Rattle.graph_model.specs.Jobs.{IsWellFormedJob}
@@ -27,7 +27,6 @@ use Rattle.restart.specs.Recovering.{job_in, index_in, IsRecovered}
 use Rattle.restart.specs.Resuming.{Resumes}
 use Rattle.restart.specs.Storable.{IsStorable}
 use Rattle.restart.proofs.OneFault.{recovered_has_none}
-use Rattle.round_steps.specs.Going.{AreDevices, AreRows}
 use Rattle.round_steps.specs.Standing.{HasEdges}
 use Rattle.round_steps.proofs.Kept.{meters_then, meter_rose_later}
 use Rattle.round_loop.specs.declared.run.Start.{Start}
@@ -71,7 +70,7 @@ use Rattle.store_resume.proofs.Refused.{refused_resume}
 use Rattle.store_resume.proofs.Starts.{opened_found, job_found, places_found, start_found, handed_in, one_start, behind_kept, stood_from}
 
 module _ {D M : Type 0} (state : D → DiskState) (lawful : (d : D) → IsDisk (state d)) (faults : M → ℕ) (call : Call D M) (meters : List M) (engines : ℕ) (found : Recovered) (formed : IsWellFormedJob (job_in found)) (as_many : (job_in found).engines ≡ engines)
-    (ready : IsReady state engines call.before) (on : MetersGoOn faults call.before.meters meters) (calm : NoMeterRose faults call.before.meters meters)
+    (ready : IsReady state engines call.before) (on : MetersGoOn faults call.before.meters meters) (calm : SameCounts faults call.before.meters meters)
     (recovered : (graphs values : List (List ℕ)) → Tell state call.before.store.graphs.items graphs → Tell state call.before.store.values.items values → IsRecovered graphs values found) where
   abbrev job : Job
   job = job_in found

@@ -4,7 +4,7 @@ use Rattle.std.specs.Prelude.{Vec}
 use Rattle.std.specs.Global.{Global}
 use Rattle.std.proofs.lemmas.Bool.{cases_lt}
 use Rattle.ports.specs.Disk.{DiskState, IsDisk, InEveryImage}
-use Rattle.ports.specs.Devices.{MetersGoOn, NoneRose, NoMeterRose}
+use Rattle.ports.specs.Devices.{MetersGoOn, NoneRose, AreDevices, NoRowRose, SameCounts}
 use Rattle.graph_model.specs.declared.edge.Edge.{Edge}
 use Rattle.graph_model.specs.declared.job.Job.{Job}
 use Rattle.graph_model.specs.Jobs.{IsWellFormedJob}
@@ -22,8 +22,6 @@ use Rattle.store_reader.specs.declared.store.Store.{Store}
 use Rattle.store_reader.specs.Devices.{SomeShut}
 use Rattle.storage_engine.specs.Preparing.{IsMadeOf, Prepares}
 use Rattle.epoch_laws.specs.Phases.{edge_shelf}
-use Rattle.scatter_epoch.specs.Scattering.{NoRowRose}
-use Rattle.round_steps.specs.Going.{AreDevices}
 use Rattle.round_steps.specs.Damage.{IsDamage}
 use Rattle.round_steps.proofs.Kept.{meters_then, meter_rose_later}
 use Rattle.round_loop.specs.declared.run.Start.TheVariants.{Fresh}
@@ -303,7 +301,7 @@ module _ {D M : Type 0} (state : D → DiskState) (lawful : (d : D) → IsDisk (
 
   -- no call failed, where it has answered
   calm_of : (ended : Finish) → RunsTo (rounds_of ended) → HasFinishCause faults meters call.after.meters call.write_faults call.write_faults_after ended
-      → NoMeterRose faults call.before.meters meters → call.read_faults_after ≡ call.read_faults → IsAnswered (ending_of job index ended) → NoneFailed state faults call
+      → SameCounts faults call.before.meters meters → call.read_faults_after ≡ call.read_faults → IsAnswered (ending_of job index ended) → NoneFailed state faults call
   calm_of (finish.Answered done) runs caused still reads answered = record {
     reads = reads;
     writes = caused.caused.1;
@@ -328,7 +326,7 @@ module _ {D M : Type 0} (state : D → DiskState) (lawful : (d : D) → IsDisk (
 
   -- **A run whose store was made**
   finished_run : (ended : Finish) → RunsTo (rounds_of ended) → Prints state (split_for job) call.after.store.values.items (shows_side job.program) ended call.out call.out_after
-      → HasFinishCause faults meters call.after.meters call.write_faults call.write_faults_after ended → NoMeterRose faults call.before.meters meters → call.read_faults_after ≡ call.read_faults
+      → HasFinishCause faults meters call.after.meters call.write_faults call.write_faults_after ended → SameCounts faults call.before.meters meters → call.read_faults_after ≡ call.read_faults
       → IsRun state faults job call (ending_of job index ended)
   finished_run ended runs prints caused still reads =
       let cause = cause_of ended runs caused in
@@ -349,6 +347,6 @@ module _ {D M : Type 0} (state : D → DiskState) (lawful : (d : D) → IsDisk (
       }
 
   pub finished_as : (ended : Finish) → RunsTo (rounds_of ended) → Prints state (split_for job) call.after.store.values.items (shows_side job.program) ended call.out call.out_after
-      → HasFinishCause faults meters call.after.meters call.write_faults call.write_faults_after ended → NoMeterRose faults call.before.meters meters → call.read_faults_after ≡ call.read_faults
+      → HasFinishCause faults meters call.after.meters call.write_faults call.write_faults_after ended → SameCounts faults call.before.meters meters → call.read_faults_after ≡ call.read_faults
       → (ending : Ending) → ending ≡ ending_of job index ended → IsRun state faults job call ending
   finished_as ended runs prints caused still reads ending is = subst (λ (e : Ending). IsRun state faults job call e) (sym is) (finished_run ended runs prints caused still reads)

@@ -2,13 +2,12 @@
 use Rattle.std.proofs.Common.{◌∙◌, inl, inr, ℕ, List, [], Option, refl, sym, subst, arith}
 use Rattle.std.specs.List.{All}
 use Rattle.ports.specs.Disk.{DiskState, IsDisk}
-use Rattle.ports.specs.Devices.{MetersGoOn}
+use Rattle.ports.specs.Devices.{MetersGoOn, OneCountRose}
 use Rattle.graph_model.specs.declared.job.Job.{Job}
 use Rattle.graph_model.specs.Answer.{edges}
 use Rattle.store_reader.specs.declared.store.Store.{Store}
 use Rattle.store_reader.specs.Devices.{IsOpenDevice}
 use Rattle.chunk_cursor.specs.declared.view.View.{View}
-use Rattle.round_steps.specs.Going.{MeterRose}
 use Rattle.round_loop.specs.declared.run.Start.TheVariants.{Fresh}
 use Rattle.round_loop.specs.Keeping.{moment}
 use Rattle.endings.specs.declared.ending.Ending.{Ending}
@@ -86,7 +85,7 @@ module _ {D M : Type 0} (state : D → DiskState) (lawful : (d : D) → IsDisk (
       (prints_nothing state job call refl) refl
 
   -- **A read of a graph device's gate failed.**
-  pub unread : MeterRose faults meters meters' → IsRun state faults job call DiskFault
+  pub unread : OneCountRose faults meters meters' → IsRun state faults job call DiskFault
   unread rose = run DiskFault (λ c. c) (λ c. c) (inr (inl rose)) (exact_interrupted state faults job call DiskFault refl)
       (λ told told_is graphs tells. inl (prints_nothing state job call refl)) tt
 

@@ -9,7 +9,7 @@ use Rattle.chunk_file.specs.declared.index.Place.{Place}
 use Rattle.store_reader.specs.declared.store.Store.{Store}
 use Rattle.storage_engine.specs.declared.fault.PrepareFault.{PrepareFault}
 use Rattle.storage_engine.specs.Preparing.{Prepares}
-use Rattle.round_steps.specs.Going.{AreDevices, AreRows}
+use Rattle.ports.specs.Devices.{AreDevices, AreRows}
 use Rattle.round_loop.specs.Keeping.{AreLater, AreLaterRows, moment}
 use Rattle.run_model.specs.Calls.{IsReady, StoreGoesOn}
 use Rattle.round_loop.proofs.Keeping.{same_devices, same_rows}

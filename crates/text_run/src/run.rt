@@ -5,7 +5,7 @@ ghost use Rattle.store_reader.specs.Devices.{SomeShut};
 ghost use Rattle.round_loop.specs.Keeping.{moment};
 ghost use Rattle.run_model.specs.Calls.{IsReady};
 ghost use Rattle.run_model.specs.Runs.{IsRun};
-ghost use Rattle.ports.specs.Devices.{MetersGoOn, NoMeterRose};
+ghost use Rattle.ports.specs.Devices.{MetersGoOn, SameCounts};
 ghost use Rattle.text_run.specs.Refusals;
 
 use answer_lines::AnswerRoom;
@@ -87,7 +87,7 @@ fn run_anew<R: Threads + Sync, S: Source, K: Sink, D: Disk, G: Gate + Sync>(
     requires beat { beat.old ≤ 2 ^ 63 + 9 }
     requires shut { SomeShut D.state store.old.graphs.items }
     ensures table { seat.new.table ≡ seat.old.table }
-    ensures run { (earlier : List D.M) → MetersGoOn D.M.faults earlier meters.old.items → NoMeterRose D.M.faults earlier meters.old.items → IsRun D.state D.M.faults job.now (record {
+    ensures run { (earlier : List D.M) → MetersGoOn D.M.faults earlier meters.old.items → SameCounts D.M.faults earlier meters.old.items → IsRun D.state D.M.faults job.now (record {
       text = S.left source.old;
       text_after = S.left source.new;
       read_faults = S.faults source.old;

@@ -50,19 +50,6 @@ apart_engines partition i j c at also = let e : cursor_of i partition ≡ cursor
 pub cursors_apart : (partition i j : ℕ) → i ≢ j → cursor_of i partition ≢ cursor_of j partition
 cursors_apart partition i j ne e = ne (omega (arith, e))
 
--- a claim at a partition's cursor is on the partition
-on_cursor : (engine partition : ℕ) → partition < 64 → (c : Call) → claims_at (cursor_of engine partition) c ≡ true → is_on partition c ≡ true
-on_cursor engine partition small (Took claimed chunk) at = eq-eqb (claimed % 64) partition (ap (λ n. n % 64) (eqb-true claimed (cursor_of engine partition) at) ∙ omega arith)
-on_cursor engine partition small (Exhausted claimed) at = eq-eqb (claimed % 64) partition (ap (λ n. n % 64) (eqb-true claimed (cursor_of engine partition) at) ∙ omega arith)
-on_cursor engine partition small (Open opened len) at = absurd (false≢true at)
-on_cursor engine partition small (Greet greeted) at = absurd (false≢true at)
-on_cursor engine partition small (Look looked left) at = absurd (false≢true at)
-on_cursor engine partition small (Heads asked heads) at = absurd (false≢true at)
-on_cursor engine partition small (Admitted asked heads) at = absurd (false≢true at)
-on_cursor engine partition small (Contended asked heads found) at = absurd (false≢true at)
-on_cursor engine partition small (Split serial worker) at = absurd (false≢true at)
-on_cursor engine partition small (Join serial worker) at = absurd (false≢true at)
-
 claim_within : (engines engine partition : ℕ) → partition < 64 → engine < engines → (c : Call) → claims_at (cursor_of engine partition) c ≡ true → IsClaim engines c
 claim_within engines engine partition small below (Took claimed chunk) at = let e : claimed ≡ cursor_of engine partition = eqb-true claimed (cursor_of engine partition) at in omega (arith, e)
 claim_within engines engine partition small below (Exhausted claimed) at = let e : claimed ≡ cursor_of engine partition = eqb-true claimed (cursor_of engine partition) at in omega (arith, e)
@@ -80,7 +67,7 @@ module _ (engines partition : ℕ) (small : partition < 64) where
   ClaimsHere c = (engine : ℕ) × (engine < engines) × (true ≡ true) × (claims_at (cursor_of engine partition) c ≡ true)
 
   here_on : (c : Call) → ClaimsHere c → is_on partition c ≡ true
-  here_on c at = on_cursor at.0 partition small c at.3
+  here_on c at = is_on_claims (cursor_of at.0 partition) partition (omega arith) c at.3
 
   here_within : (c : Call) → ClaimsHere c → IsClaim engines c
   here_within c at = claim_within engines at.0 partition small at.1 c at.3

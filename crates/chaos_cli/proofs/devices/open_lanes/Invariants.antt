@@ -1,7 +1,7 @@
 use Rattle.std.proofs.Common.{◌≡◌, length}
 use Rattle.std.specs.List.{All}
 use Rattle.real_devices.specs.FileState.{untold}
-use Rattle.round_steps.specs.Going.{AreDevices}
+use Rattle.ports.specs.Devices.{AreDevices}
 use Rattle.chaos_cli.specs.Files.{AreNumberedRows}
 use Rattle.chaos_cli.proofs.devices.open_lanes.Given as goal
 

@@ -1,7 +1,7 @@
 use Rattle.std.proofs.Common.{◌≡◌, length}
 use Rattle.std.specs.List.{All}
 use Rattle.mem_devices.specs.MemDisk.{disk_state}
-use Rattle.round_steps.specs.Going.{AreDevices}
+use Rattle.ports.specs.Devices.{AreDevices}
 use Rattle.chaos_tests.proofs.world.rows.Given as goal
 
 abbrev pub invariant-loop-worker : goal.invariant-loop-worker

@@ -1,7 +1,6 @@
 use Rattle.std.proofs.Common.{inl, inr}
 use Rattle.ports.proofs.Rising.{on_err}
-use Rattle.ports.specs.Devices.{OneRose}
-use Rattle.restart.specs.Devices.{OneRowRose}
+use Rattle.ports.specs.Devices.{OneRose, OneRowRose}
 use Rattle.restart.proofs.Devices.{on_err_map, given_back}
 use Rattle.restart.proofs.dropping.empty_store.Goals as goal
 
@@ -9,7 +8,7 @@ pub returns-in_err-empty_rows-clause-cause : goal.returns-in_err-empty_rows-clau
 returns-in_err-empty_rows-clause-cause g c =
     let rows = c.empty_rows in
     on_err c.from_residual-in_err-empty_rows.result
-    (inr (inr (inl (given_back (OneRowRose (λ row. row.items) g.D.Disk.state) c.args.store.now.lanes c.deref_mut-3.result.now rows.new.rows c.deref_mut-3.ensures.value rows.ensures.empties.many c.in_err-empty_rows.ensures.cause))))
+    (inr (inr (inl (given_back (OneRowRose g.D.Disk.state) c.args.store.now.lanes c.deref_mut-3.result.now rows.new.rows c.deref_mut-3.ensures.value rows.ensures.empties.many c.in_err-empty_rows.ensures.cause))))
 
 pub returns-clause-cause : goal.returns-clause-cause
 returns-clause-cause g c =

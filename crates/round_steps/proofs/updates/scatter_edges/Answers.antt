@@ -1,7 +1,7 @@
 -- The clauses of `scatter_all`, in words of the store and of the job.
 use Rattle.std.proofs.Common.{ℕ, refl, subst, arith}
 use Rattle.graph_model.specs.Rounds.{IsWithinGraph}
-use Rattle.round_steps.specs.Going.{AreRows}
+use Rattle.ports.specs.Devices.{AreRows}
 use Rattle.round_steps.proofs.Damage.{scatters_names}
 use Rattle.round_steps.proofs.Scattered.{rows_are, row_rose, scatters_soundly, scatters}
 use Rattle.round_steps.proofs.updates.scatter_edges.Goals as goal

@@ -5,7 +5,7 @@ use Rattle.ports.specs.Faults.{Rose}
 use Rattle.store_model.specs.Damage.{HasFault}
 use Rattle.store_checks.specs.Causes.{Tell}
 use Rattle.restart.specs.declared.recovering.Recovered.TheVariants.{Found, Fresh}
-use Rattle.round_steps.specs.Going.{MeterRose}
+use Rattle.ports.specs.Devices.{OneCountRose}
 use Rattle.round_loop.specs.Keeping.{moment}
 use Rattle.endings.specs.declared.ending.Ending.{Ending}
 use Rattle.run_model.specs.Calls.{Call}
@@ -95,7 +95,7 @@ returns-in-Err-clause-resume g c text read_faults =
     } in
     subst (λ (ending : Ending). IsResume state faults call k ending) (sym c.refusal.ensures)
     (refused_resume state disks.lawful faults call k c.requires.ready (meters_after faults meters k below own c.recover.new.meter c.index_mut.ensures.value c.in-Err.ensures.later) refl refl refl refl refl refl c.in-Err.fault
-    (cause_among (Rose (faults own) (faults c.recover.new.meter)) (MeterRose faults meters after)
+    (cause_among (Rose (faults own) (faults c.recover.new.meter)) (OneCountRose faults meters after)
     (λ fault. (graphs values : List (List ℕ)) → Tell state store.graphs.items graphs → Tell state store.values.items values → HasFault graphs values fault) c.in-Err.fault
     (meter_rose faults meters k below own c.recover.new.meter c.index_mut.ensures.value) c.in-Err.ensures.cause)
     c.in-Err.ensures.cause_of_job)

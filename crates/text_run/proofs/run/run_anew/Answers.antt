@@ -2,7 +2,7 @@
 use Rattle.std.proofs.Common.{◌∙◌, ◌<◌, ◌≤◌, List, length, slice_set, sym, ap, subst, arith}
 use Rattle.std.proofs.Math.Seq.{map-set_same}
 use Rattle.ports.specs.Faults.{Rose}
-use Rattle.ports.specs.Devices.{MetersGoOn, NoMeterRose}
+use Rattle.ports.specs.Devices.{MetersGoOn, SameCounts}
 use Rattle.round_steps.proofs.Kept.{meters_then}
 use Rattle.round_loop.specs.Keeping.{moment}
 use Rattle.run_model.specs.Calls.{Call}
@@ -56,7 +56,7 @@ returns-clause-run g c earlier on still =
     let later : faults own ≤ faults c.prepare.new.meter = subst (λ m. faults own ≤ faults m) (sym c.in-Ok-prepare.ensures.rest.2) (omega arith) in
     let after : List g.row.D-M.Denot = slice_set meters k c.prepare.new.meter in
     let on_after : MetersGoOn faults earlier after = meters_then faults earlier meters after on (meters_after faults meters k below own c.prepare.new.meter c.index_mut.ensures.value later) in
-    let still_after : NoMeterRose faults earlier after = map-set_same faults meters k c.prepare.new.meter own (ap faults (c.in-Ok-prepare.ensures.rest.2 ∙ c.index_mut.ensures.value)) ∙ still in
+    let still_after : SameCounts faults earlier after = map-set_same faults meters k c.prepare.new.meter own (ap faults (c.in-Ok-prepare.ensures.rest.2 ∙ c.index_mut.ensures.value)) ∙ still in
     let end = c.run_job-finish in
     let call : Call g.row.D.Denot g.row.D-M.Denot = record {
       text = g.S.Source.left c.args.source.now;
