@@ -7,6 +7,7 @@ use Rattle.graph_model.specs.declared.edge.Edge.{Edge}
 use Rattle.graph_model.specs.declared.value.Value.{Value}
 use Rattle.graph_model.specs.Programs.{Rules}
 use Rattle.graph_model.specs.Rounds.{values}
+use Rattle.graph_model.proofs.RoundLemmas.{length-values}
 use Rattle.gather_laws.specs.Laws.{HaveRoom}
 use Rattle.partitioner.specs.declared.split.Split.{Split}
 use Rattle.ports.specs.Disk.{DiskState}
@@ -26,8 +27,9 @@ module _ {D : Type 0} (state : D → DiskState) (split : Split) (devices : List 
     pub told : bytes ≡ Some read
     pub stands : slot_values (own_in split engine) slot read ≡ values_bytes (share_of split engine all)
 
-  pub hold_values : (slot : ℕ) (all : List Value) → HaveRoom all → ((e : ℕ) (d : D) → e < split.engines → ShareIn slot all e (state (slice_index_or devices e d)).bytes) → HoldValues state split devices slot all
-  hold_values slot all fit each = record {
+  pub hold_values : (slot : ℕ) (all : List Value) → length all ≡ split.vertices → HaveRoom all → ((e : ℕ) (d : D) → e < split.engines → ShareIn slot all e (state (slice_index_or devices e d)).bytes) → HoldValues state split devices slot all
+  hold_values slot all long fit each = record {
+    long = long;
     fit = fit;
     stand = λ p below.
         let e : ℕ = master_in split p in
@@ -41,11 +43,11 @@ module _ {D : Type 0} (state : D → DiskState) (split : Split) (devices : List 
 
   module _ (rules : Rules) (edges : List Edge) (round : ℕ) (fit : (r : ℕ) → HaveRoom (values rules split.vertices edges r)) where
     pub hold_last : (changed_only : Bool) → 1 ≤ round → ValuesStand state rules split edges round changed_only devices → HoldValues state split devices (1 - slot_of round) (values rules split.vertices edges (round - 1))
-    hold_last changed_only later stand = hold_values (1 - slot_of round) (values rules split.vertices edges (round - 1)) (fit (round - 1))
+    hold_last changed_only later stand = hold_values (1 - slot_of round) (values rules split.vertices edges (round - 1)) (length-values rules split.vertices edges (round - 1)) (fit (round - 1))
         (λ e d below. let at : StandsBefore rules split edges round changed_only e (state (slice_index_or devices e d)).bytes = stand e d below in record { read = at.read; told = at.told; stands = at.last later })
 
     pub hold_earlier : (changed_only : Bool) → ValuesStand state rules split edges round changed_only devices
         → HoldBefore state split devices (if changed_only then Some (slot_of round) else None) (earlier_values rules split.vertices edges round changed_only)
-    hold_earlier true stand = hold_values (slot_of round) (values rules split.vertices edges (round - 2)) (fit (round - 2))
+    hold_earlier true stand = hold_values (slot_of round) (values rules split.vertices edges (round - 2)) (length-values rules split.vertices edges (round - 2)) (fit (round - 2))
         (λ e d below. let at : StandsBefore rules split edges round true e (state (slice_index_or devices e d)).bytes = stand e d below in record { read = at.read; told = at.told; stands = at.earlier refl })
     hold_earlier false stand = tt
