@@ -22,7 +22,8 @@ use Rattle.store_model.specs.Slots.{slot_of}
 use Rattle.restart.proofs.HeadsOfJobs.{few_vertices}
 use Rattle.partitioner.specs.Splits.{split_for}
 use Rattle.round_loop.specs.Kept.{IsRead}
-use Rattle.answer_lines.specs.Values.{HoldValues}
+use Rattle.store_reader.specs.Values.{HoldValues}
+use Rattle.round_steps.proofs.Holding.{hold_values}
 use Rattle.answer_lines.specs.Printing.{PrintsAll, PrintsFront}
 use Rattle.answer_lines.proofs.Answered.{prints_these, prints_front_of_these}
 use Rattle.list_moves.proofs.Desks.{some_of}
@@ -36,12 +37,6 @@ rooms (Sssp root) n edges round few within = values_fit (rules_of (Sssp root)) I
 rooms Degrees n edges round few within = values_fit (rules_of Degrees) IsCapped degrees_laws n edges few within round
 rooms (PageRank rounds) n edges round few within = values_fit (rules_of (PageRank rounds)) IsCapped (pagerank_laws rounds) n edges few within round
 
--- the item at a place of a list
-got : {X : Type 0} (xs : List X) (e : ℕ) (d : X) → e < length xs → slice_get xs e ≡ Some (get_or xs e d)
-got (x ∷ xs) zero d below = refl
-got (x ∷ xs) (suc e) d below = got xs e d (omega arith)
-got [] e d below = absurd (omega arith)
-
 -- what was written of a piece is its front
 parts_of_front : (piece : List ℕ) (old new : Option (List ℕ)) → AsTold (AppendsFront piece) old new → (printed : List ℕ) × (rest : List ℕ) × AsTold (Appends printed) old new × (printed ++ rest ≡ piece)
 parts_of_front piece (Some old) (Some new) told = (take told.0 piece, drop told.0 piece, told.2, take-append-drop told.0 piece)
@@ -53,15 +48,12 @@ module _ {D : Type 0} (state : D → DiskState) (job : Job) (edges : List Edge) 
     (read : IsRead (rules_of job.program) job edges state round devices) where
   -- **The values of the round stand in its slot.**
   pub held : HoldValues state (split_for job) devices (slot_of round) (values (rules_of job.program) job.vertices edges round)
-  held = record {
-    long = length-values (rules_of job.program) job.vertices edges round;
-    fit = rooms job.program job.vertices edges round (omega (arith, few_vertices job well)) graph;
-    stand = λ e below.
-        let within : e < length devices = omega (arith, many, below) in
-        let d : D = some_of devices e within in
-        let gives = read e d below in
-        (gives.0, ap (option_and_then (λ disk. (state disk).bytes)) (got devices e d within) ∙ gives.1, gives.2.values_are);
-  }
+  held = hold_values state (split_for job) devices many some (slot_of round) (values (rules_of job.program) job.vertices edges round)
+      (length-values (rules_of job.program) job.vertices edges round) (rooms job.program job.vertices edges round (omega (arith, few_vertices job well)) graph)
+      (λ e d below. let gives = read e d below in record { read = gives.0; told = gives.1; stands = gives.2.values_are })
+    where
+      some : 1 ≤ job.engines
+      some = well.engines.0
 
   -- **All lines of the last round are the answer.**
   pub whole_answer : (old new : Option (List ℕ)) → IsLastRound (rules_of job.program) job.vertices edges job.limit round

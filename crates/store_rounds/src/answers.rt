@@ -9,7 +9,7 @@ ghost use Rattle.store_model.specs.Slots.{slot_of};
 ghost use Rattle.round_steps.specs.Going.{Tell};
 ghost use Rattle.partitioner.specs.Splits.{split_for};
 ghost use Rattle.round_loop.specs.Kept.{IsKept, IsRead};
-ghost use Rattle.answer_lines.specs.Values.{HoldValues};
+ghost use Rattle.store_reader.specs.Values.{HoldValues};
 ghost use Rattle.answer_lines.specs.Printing.{PrintsAll, PrintsFront};
 ghost use Rattle.store_rounds.specs.Printed.{AnswerPrinted, FrontPrinted};
 
