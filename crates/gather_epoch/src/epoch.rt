@@ -1,7 +1,7 @@
 //! A gather epoch.
 ghost use Rattle.std.specs.Prelude.{◌≡◌, ◌≢◌, ◌⊎◌, ℕ, ◌<◌, ◌≤◌, All, OnOk, OnErr, length, vec_len, vec_capacity, slice_index_or};
-ghost use Rattle.ports.specs.Devices.{NoneRose, SameCounts};
-ghost use Rattle.ports.specs.Faults.{Rose};
+ghost use Rattle.ports.specs.Devices.{OneRose, NoneRose, SameCounts};
+ghost use Rattle.ports.specs.Faults.{HasCause};
 ghost use Rattle.replica_merge.specs.Accumulators.{split_of};
 ghost use Rattle.store_reader.specs.Indexed.{IsServing};
 ghost use Rattle.gather_phase.specs.Phases.{MayStopBy};
@@ -86,7 +86,7 @@ fn empty_all<D: Disk>(disks: &mut [D], beat: &Beat) -> Result<(), Failed>
     ensures many { length disks.new ≡ length disks.old }
     ensures steps { (w : ℕ) (d : D) → w < length disks.old → IsLater D.state beat.now (slice_index_or disks.old w d) (slice_index_or disks.new w d) }
     ensures empty { OnOk result (All (λ d. (D.state d).size ≡ 0) disks.new) }
-    ensures cause { OnErr result ((w : ℕ) × (w < length disks.old) × ((d : D) → Rose (D.state (slice_index_or disks.old w d)).faults (D.state (slice_index_or disks.new w d)).faults)) }
+    ensures cause { OnErr result (OneRose D.state disks.old disks.new) }
     ensures calm { OnOk result (NoneRose D.state disks.old disks.new) }
 {
     for disk in disks.iter_mut() {
@@ -100,8 +100,7 @@ fn empty<D: Disk>(disk: &mut D, beat: &Beat) -> Result<(), Failed>
     requires { (D.state disk.old).beat ≤ beat.now }
     ensures step { IsLater D.state beat.now disk.old disk.new }
     ensures empty { OnOk result ((D.state disk.new).size ≡ 0) }
-    ensures cause { OnErr result (Rose (D.state disk.old).faults (D.state disk.new).faults) }
-    ensures calm { OnOk result ((D.state disk.new).faults ≡ (D.state disk.old).faults) }
+    ensures cause { HasCause (D.state disk.old).faults (D.state disk.new).faults result }
 {
     disk.cut(beat, 0)
 }

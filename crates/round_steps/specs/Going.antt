@@ -1,11 +1,9 @@
 -- What every answer says of a store, of the meters, and of what they count.
-use Rattle.std.specs.Prelude.{◌≡◌, ◌⊎◌, ℕ, ◌<◌, ◌≤◌, List, Some, length, slice_index_or, Vec, vec_len}
-use Rattle.std.specs.Global.{Global}
+use Rattle.std.specs.Prelude.{◌≡◌, ◌⊎◌, ℕ, ◌<◌, List, Some, length, slice_index_or, vec_len}
 use Rattle.ports.specs.Disk.{DiskState, IsSettled, InEveryImage}
-use Rattle.ports.specs.Faults.{Rose}
 use Rattle.ports.specs.Stops.{Leaves}
 use Rattle.ports.specs.Told.{AsTold}
-use Rattle.ports.specs.Devices.{OneRose, NoneRose, NoRowRose, SameCounts}
+use Rattle.ports.specs.Devices.{AreDevices, AreRows, OneCountRose, OneRose, OneRowRose, NoneRose, NoRowRose, SameCounts}
 use Rattle.partitioner.specs.declared.split.Split.{Split}
 use Rattle.store_model.specs.Slots.{device_size, slot_of}
 use Rattle.store_reader.specs.Reading.{own_in}
