@@ -1,31 +1,20 @@
 -- The lists of an index, with one place more in one of them.
-use Rattle.std.proofs.Common.{◌≡◌, ℕ, ◌+◌, ◌*◌, ◌^◌, ◌<◌, ◌≤◌, List, [], ◌∷◌, ◌++◌, length, map, take, replicate, get_or, set, sym, ◌∙◌, ap, subst, arith, lit≤, length-append, length-set}
+use Rattle.std.proofs.Common.{◌≡◌, ℕ, ◌+◌, ◌*◌, ◌^◌, ◌<◌, ◌≤◌, List, [], ◌∷◌, ◌++◌, length, take, replicate, get_or, set, sym, ◌∙◌, ap, subst, arith, lit≤, length-append, length-set}
 use Rattle.std.specs.Prelude.{Vec}
 use Rattle.std.specs.List.{All}
 use Rattle.std.specs.Global.{Global}
-use Rattle.std.proofs.lemmas.List.{map-append, length-map, length-replicate, take_more_set, map-set, set-get_or, get_or-map, replicate_more}
+use Rattle.std.proofs.lemmas.List.{length-map, length-replicate, take_more_set, map-set, replicate_more}
 use Rattle.std.proofs.lemmas.List.Sums.{sum_by-set, get_or-le-sum_by, sum_by-le}
 use Rattle.std.proofs.lemmas.List.Folds.{sum_by-replicate}
 use Rattle.std.proofs.lemmas.List.Elements.{All-set, All-replicate}
+use Rattle.graph_model.proofs.VecLists.{items_of}
 use Rattle.chunk_file.specs.declared.index.Place.{Place}
 use Rattle.chunk_file.specs.declared.index.Index.TheInside.{Inside}
 use Rattle.chunk_file.specs.Places.{no_places, total_of}
 use Rattle.chunk_file.specs.Inside.{lists_in, IsIndex}
 
-abbrev pub items_of : List (Vec Place Global) → List (List Place)
-items_of vs = map (λ (v : Vec Place Global). v.items) vs
-
 abbrev place_count : List Place → ℕ
 place_count places = length places
-
--- one list more
-pub lists_more : (vs : List (Vec Place Global)) (v : Vec Place Global) (n : ℕ) → items_of vs ≡ replicate n no_places → v.items ≡ [] →
-    items_of (vs ++ v ∷ []) ≡ replicate (n + 1) no_places
-lists_more vs v n so_far empty =
-    map-append (λ (w : Vec Place Global). w.items) vs (v ∷ [])
-    ∙ ap (λ xs. xs ++ v.items ∷ []) so_far
-    ∙ ap (λ x. replicate n no_places ++ x ∷ []) empty
-    ∙ replicate_more n no_places
 
 pub new_index : (a : Inside) → items_of a.places.items ≡ replicate 512 no_places → a.total ≡ 0 → IsIndex a
 new_index a are none = record {
@@ -48,24 +37,6 @@ clear_more n vs w below empty is = record {
       ∙ (ap (λ x. replicate n no_places ++ x ∷ []) empty
       ∙ replicate_more n no_places)));
 }
-
--- the list that was lent
-lent_is : (vs : List (Vec Place Global)) (k : ℕ) (x : Vec Place Global) → x ≡ get_or vs k x → k < length vs → x.items ≡ get_or (items_of vs) k no_places
-lent_is vs k x is within =
-    ap (λ (v : Vec Place Global). v.items) is ∙ sym (get_or-map (λ (v : Vec Place Global). v.items) vs k x no_places within)
-
-pub same_lists : (vs : List (Vec Place Global)) (k : ℕ) (x w : Vec Place Global) → x ≡ get_or vs k x → k < length vs → w.items ≡ x.items →
-    items_of (set vs k w) ≡ items_of vs
-same_lists vs k x w is within same =
-    map-set (λ (v : Vec Place Global). v.items) vs k w
-    ∙ ap (λ y. set (items_of vs) k y) (same ∙ lent_is vs k x is within)
-    ∙ set-get_or (items_of vs) k no_places
-
-pub more_lists : (vs : List (Vec Place Global)) (k : ℕ) (x w : Vec Place Global) (place : Place) → x ≡ get_or vs k x → k < length vs → w.items ≡ x.items ++ place ∷ [] →
-    items_of (set vs k w) ≡ set (items_of vs) k (get_or (items_of vs) k no_places ++ place ∷ [])
-more_lists vs k x w place is within more =
-    map-set (λ (v : Vec Place Global). v.items) vs k w
-    ∙ ap (λ y. set (items_of vs) k y) (more ∙ ap (λ y. y ++ place ∷ []) (lent_is vs k x is within))
 
 -- **One place more.**
 pub total-more : (index : List (List Place)) (k : ℕ) (place : Place) → k < length index →

@@ -1,5 +1,5 @@
 //! One chunk, from a device.
-ghost use Rattle.std.specs.Prelude.{◌≡◌, ◌+◌, ◌-◌, ◌<◌, ◌≤◌, min, length, take, IfOk, IfErr, IfSome, OnOk};
+ghost use Rattle.std.specs.Prelude.{◌≡◌, ◌≢◌, ◌+◌, ◌-◌, ◌<◌, ◌≤◌, min, length, take, IfOk, IfErr, IfSome, Err};
 ghost use Rattle.ports.specs.Bytes.{bytes_at};
 ghost use Rattle.ports.specs.Faults.{HasCause, Rose};
 ghost use Rattle.partitioner.specs.Splits.{IsSplit};
@@ -36,7 +36,7 @@ pub fn read_chunk<R: Record, D: Disk>(
     ensures found { IfOk result (λ count. IfSome (D.state disk.now).bytes (λ told.
         IsChunkIn (R.layout format) split.now (length into.new) partition at told (take count into.new))) }
     ensures later { D.M.faults meter.old ≤ D.M.faults meter.new }
-    ensures calm { OnOk result (D.M.faults meter.new ≡ D.M.faults meter.old) }
+    ensures calm { result ≢ Err ChunkFault.DiskFault → D.M.faults meter.new ≡ D.M.faults meter.old }
     ensures cause { IfErr result (HasChunkCause (Rose (D.M.faults meter.old) (D.M.faults meter.new))
         (λ place. (place ≡ at) × IfSome (D.state disk.now).bytes (NoChunkIn (R.layout format) split.now (length into.new) partition at)) ⊥) }
 {

@@ -1,5 +1,5 @@
 //! All chunks of a graph device.
-ghost use Rattle.std.specs.Prelude.{◌≡◌, ℕ, ◌+◌, ◌<◌, ◌≤◌, [], List, length, IfOk, IfErr, IfSome, OnOk, ⊤};
+ghost use Rattle.std.specs.Prelude.{◌≡◌, ◌≢◌, ℕ, ◌+◌, ◌<◌, ◌≤◌, [], List, length, IfOk, IfErr, IfSome, OnOk, Err, ⊤};
 ghost use Rattle.std.specs.Int.{IsInRange};
 ghost use Rattle.ports.specs.Faults.{Rose};
 ghost use Rattle.partitioner.specs.Splits.{IsSplit};
@@ -44,7 +44,7 @@ pub fn scan<D: Disk>(
     ensures all { OnOk result (IfSome (D.state disk.now).bytes (λ told. Scanned format split.now chunk engine told into.old into.new [])) }
     ensures front { IfSome (D.state disk.now).bytes (λ told. (rest : List ℕ) × Scanned format split.now chunk engine told into.old into.new rest) }
     ensures later { D.M.faults meter.old ≤ D.M.faults meter.new }
-    ensures calm { OnOk result (D.M.faults meter.new ≡ D.M.faults meter.old) }
+    ensures calm { result ≢ Err ChunkFault.DiskFault → D.M.faults meter.new ≡ D.M.faults meter.old }
     ensures cause { IfErr result (HasChunkCause (Rose (D.M.faults meter.old) (D.M.faults meter.new))
         (λ at. IfSome (D.state disk.now).bytes (StopsAt format split.now chunk engine into.old into.new at)) ⊤) }
 {
@@ -94,7 +94,7 @@ fn scan_chunks<D: Disk>(
     ensures all { OnOk result (IfSome (D.state disk.now).bytes (λ told. Scanned format split.now (length edges.old) engine told into.old into.new [])) }
     ensures front { IfSome (D.state disk.now).bytes (λ told. (rest : List ℕ) × Scanned format split.now (length edges.old) engine told into.old into.new rest) }
     ensures later { D.M.faults meter.old ≤ D.M.faults meter.new }
-    ensures calm { OnOk result (D.M.faults meter.new ≡ D.M.faults meter.old) }
+    ensures calm { result ≢ Err ChunkFault.DiskFault → D.M.faults meter.new ≡ D.M.faults meter.old }
     ensures cause { IfErr result (HasChunkCause (Rose (D.M.faults meter.old) (D.M.faults meter.new))
         (λ at. IfSome (D.state disk.now).bytes (StopsAt format split.now (length edges.old) engine into.old into.new at)) ⊤) }
 {
@@ -140,7 +140,7 @@ fn next_chunk<D: Disk>(
     ensures found { IfOk result (λ found. IfSome (D.state disk.now).bytes (λ told.
         IsNext format split.now (length edges.old) at told found.partition found.size)) }
     ensures later { D.M.faults meter.old ≤ D.M.faults meter.new }
-    ensures calm { OnOk result (D.M.faults meter.new ≡ D.M.faults meter.old) }
+    ensures calm { result ≢ Err ChunkFault.DiskFault → D.M.faults meter.new ≡ D.M.faults meter.old }
     ensures cause { IfErr result (HasChunkCause (Rose (D.M.faults meter.old) (D.M.faults meter.new))
         (λ place. (place ≡ at) × IfSome (D.state disk.now).bytes (NoEdgeChunk format split.now (length edges.old) at)) ⊥) }
 {

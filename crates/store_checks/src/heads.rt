@@ -1,5 +1,5 @@
 //! The heads of all graph devices.
-ghost use Rattle.std.specs.Prelude.{◌≡◌, ℕ, ◌<◌, ◌≤◌, List, length, take, Some, None, IfOk, IfErr, OnOk};
+ghost use Rattle.std.specs.Prelude.{◌≡◌, ◌≢◌, ℕ, ◌<◌, ◌≤◌, List, length, take, Some, None, IfOk, IfErr, OnOk, Err};
 ghost use Rattle.std.specs.List.{All};
 ghost use Rattle.ports.specs.Faults.{Rose};
 ghost use Rattle.graph_model.specs.Jobs.{IsWellFormedJob};
@@ -25,7 +25,7 @@ pub fn job_of_heads<D: Disk>(graphs: &[D], meter: &mut D::M) -> Result<Job, Reco
     ensures says { (told : List (List ℕ)) → Tell D.state graphs.now told → IfOk result (SaysJob (head_of told 0)) }
     ensures sound { (told : List (List ℕ)) → Tell D.state graphs.now told → OnOk result (heads_fault told ≡ None) }
     ensures later { D.M.faults meter.old ≤ D.M.faults meter.new }
-    ensures calm { OnOk result (D.M.faults meter.new ≡ D.M.faults meter.old) }
+    ensures calm { result ≢ Err RecoverFault.DiskFault → D.M.faults meter.new ≡ D.M.faults meter.old }
     ensures cause { IfErr result (HasRecoverCause (Rose (D.M.faults meter.old) (D.M.faults meter.new))
         (λ fault. (told : List (List ℕ)) → Tell D.state graphs.now told → heads_fault told ≡ Some fault)) }
 {
@@ -56,7 +56,7 @@ fn check_heads<D: Disk>(graphs: &[D], meter: &mut D::M) -> Result<(), RecoverFau
     ensures few { OnOk result (length graphs.now ≤ 256) }
     ensures sound { (told : List (List ℕ)) → Tell D.state graphs.now told → OnOk result (first_over (λ e. head_fault e (head_of told e)) (length told) ≡ None) }
     ensures later { D.M.faults meter.old ≤ D.M.faults meter.new }
-    ensures calm { OnOk result (D.M.faults meter.new ≡ D.M.faults meter.old) }
+    ensures calm { result ≢ Err RecoverFault.DiskFault → D.M.faults meter.new ≡ D.M.faults meter.old }
     ensures cause { IfErr result (HasRecoverCause (Rose (D.M.faults meter.old) (D.M.faults meter.new))
         (λ fault. (told : List (List ℕ)) → Tell D.state graphs.now told → first_over (λ e. head_fault e (head_of told e)) (length told) ≡ Some fault)) }
 {
@@ -75,7 +75,7 @@ fn compare_heads<D: Disk>(first: &[u8], graphs: &[D], meter: &mut D::M) -> Resul
     requires sizes { All (λ disk. 65 ≤ (D.state disk).size) graphs.now }
     ensures sound { (told : List (List ℕ)) → Tell D.state graphs.now told → OnOk result (first_over (λ e. other_fault first.now e (head_of told e)) (length told) ≡ None) }
     ensures later { D.M.faults meter.old ≤ D.M.faults meter.new }
-    ensures calm { OnOk result (D.M.faults meter.new ≡ D.M.faults meter.old) }
+    ensures calm { result ≢ Err RecoverFault.DiskFault → D.M.faults meter.new ≡ D.M.faults meter.old }
     ensures cause { IfErr result (HasRecoverCause (Rose (D.M.faults meter.old) (D.M.faults meter.new))
         (λ fault. (told : List (List ℕ)) → Tell D.state graphs.now told → first_over (λ e. other_fault first.now e (head_of told e)) (length told) ≡ Some fault)) }
 {
@@ -99,7 +99,7 @@ fn well_formed_head<D: Disk>(
     ensures read { (told : List ℕ) → (D.state disk.now).bytes ≡ Some told → IfOk result (λ head. head ≡ take 65 told) }
     ensures sound { (told : List ℕ) → (D.state disk.now).bytes ≡ Some told → OnOk result (head_fault engine (take 65 told) ≡ None) }
     ensures later { D.M.faults meter.old ≤ D.M.faults meter.new }
-    ensures calm { OnOk result (D.M.faults meter.new ≡ D.M.faults meter.old) }
+    ensures calm { result ≢ Err RecoverFault.DiskFault → D.M.faults meter.new ≡ D.M.faults meter.old }
     ensures cause { IfErr result (HasRecoverCause (Rose (D.M.faults meter.old) (D.M.faults meter.new))
         (λ fault. (told : List ℕ) → (D.state disk.now).bytes ≡ Some told → head_fault engine (take 65 told) ≡ Some fault)) }
 {
@@ -121,7 +121,7 @@ fn same_head<D: Disk>(
     requires size { 65 ≤ (D.state disk.now).size }
     ensures sound { (told : List ℕ) → (D.state disk.now).bytes ≡ Some told → OnOk result (other_fault first.now engine (take 65 told) ≡ None) }
     ensures later { D.M.faults meter.old ≤ D.M.faults meter.new }
-    ensures calm { OnOk result (D.M.faults meter.new ≡ D.M.faults meter.old) }
+    ensures calm { result ≢ Err RecoverFault.DiskFault → D.M.faults meter.new ≡ D.M.faults meter.old }
     ensures cause { IfErr result (HasRecoverCause (Rose (D.M.faults meter.old) (D.M.faults meter.new))
         (λ fault. (told : List ℕ) → (D.state disk.now).bytes ≡ Some told → other_fault first.now engine (take 65 told) ≡ Some fault)) }
 {
@@ -147,7 +147,7 @@ fn read_head<D: Disk>(disk: &D, meter: &mut D::M) -> Result<[u8; HEAD_SIZE], Rec
     requires { 65 ≤ (D.state disk.now).size }
     ensures read { (told : List ℕ) → (D.state disk.now).bytes ≡ Some told → IfOk result (λ head. head ≡ take 65 told) }
     ensures later { D.M.faults meter.old ≤ D.M.faults meter.new }
-    ensures calm { OnOk result (D.M.faults meter.new ≡ D.M.faults meter.old) }
+    ensures calm { result ≢ Err RecoverFault.DiskFault → D.M.faults meter.new ≡ D.M.faults meter.old }
     ensures cause { IfErr result (λ fault. (fault ≡ RecoverFault.DiskFault) × Rose (D.M.faults meter.old) (D.M.faults meter.new)) }
 {
     let mut head = [0; HEAD_SIZE];

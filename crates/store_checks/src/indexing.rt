@@ -1,5 +1,5 @@
 //! Where the chunks of the graph devices stand.
-ghost use Rattle.std.specs.Prelude.{◌≡◌, ℕ, ◌<◌, ◌≤◌, List, length, IfOk, IfErr, OnOk};
+ghost use Rattle.std.specs.Prelude.{◌≡◌, ◌≢◌, ℕ, ◌<◌, ◌≤◌, List, length, IfOk, IfErr, Err};
 ghost use Rattle.ports.specs.Faults.{Rose};
 ghost use Rattle.graph_model.specs.Jobs.{IsWellFormedJob};
 ghost use Rattle.partitioner.specs.Splits.{IsSplit, IsSplitOf};
@@ -31,7 +31,7 @@ pub fn index_graphs<D: Disk>(
     ensures places { IfOk result (λ index. total_of index ≤ MOST_PLACES) }
     ensures all { (told : List (List ℕ)) → Tell D.state graphs.now told → IfOk result (IsIndexed job.now split.now told) }
     ensures later { D.M.faults meter.old ≤ D.M.faults meter.new }
-    ensures calm { OnOk result (D.M.faults meter.new ≡ D.M.faults meter.old) }
+    ensures calm { result ≢ Err RecoverFault.DiskFault → D.M.faults meter.new ≡ D.M.faults meter.old }
     ensures cause { IfErr result (HasRecoverCause (Rose (D.M.faults meter.old) (D.M.faults meter.new))
         (λ fault. (told : List (List ℕ)) → Tell D.state graphs.now told → (e : ℕ) × (at : ℕ) × (fault ≡ GraphDamaged e at) × StopsIn job.now split.now told e at)) }
 {

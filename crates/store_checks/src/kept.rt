@@ -1,5 +1,5 @@
 //! The round that is kept in a store.
-ghost use Rattle.std.specs.Prelude.{◌≡◌, ℕ, ◌+◌, ◌^◌, ◌<◌, ◌≤◌, List, length, slice_index_or, Some, None, IfOk, IfErr, IfSome, OnOk};
+ghost use Rattle.std.specs.Prelude.{◌≡◌, ◌≢◌, ℕ, ◌+◌, ◌^◌, ◌<◌, ◌≤◌, List, length, slice_index_or, Some, None, IfOk, IfErr, IfSome, Err};
 ghost use Rattle.ports.specs.Faults.{Rose};
 ghost use Rattle.partitioner.specs.Splits.{IsSplit};
 ghost use Rattle.store_model.specs.Slots.{device_size, slot_of};
@@ -35,7 +35,7 @@ pub fn kept_round<D: Disk>(
     ensures within { IfOk result (λ kept. IfSome kept (λ standing. standing.round ≤ 1000000)) }
     ensures kept { (told : List (List ℕ)) → Tell D.state values.now told → IfOk result (FindsKept (own_in split.now) told) }
     ensures later { D.M.faults meter.old ≤ D.M.faults meter.new }
-    ensures calm { OnOk result (D.M.faults meter.new ≡ D.M.faults meter.old) }
+    ensures calm { result ≢ Err RecoverFault.DiskFault → D.M.faults meter.new ≡ D.M.faults meter.old }
     ensures cause { IfErr result (HasRecoverCause (Rose (D.M.faults meter.old) (D.M.faults meter.new))
         (λ fault. (told : List (List ℕ)) → Tell D.state values.now told → ⊥)) }
 {
@@ -87,7 +87,7 @@ fn round_in_slot<D: Disk>(
     ensures within { IfOk result (λ found. IfSome found (λ standing. (slot_of standing.round ≡ slot) × (standing.round ≤ 1000000))) }
     ensures finds { (told : List (List ℕ)) → Tell D.state values.now told → IfOk result (FindsRound (own_in split.now) told slot (length told)) }
     ensures later { D.M.faults meter.old ≤ D.M.faults meter.new }
-    ensures calm { OnOk result (D.M.faults meter.new ≡ D.M.faults meter.old) }
+    ensures calm { result ≢ Err RecoverFault.DiskFault → D.M.faults meter.new ≡ D.M.faults meter.old }
     ensures cause { IfErr result (HasRecoverCause (Rose (D.M.faults meter.old) (D.M.faults meter.new))
         (λ fault. (told : List (List ℕ)) → Tell D.state values.now told → ⊥)) }
 {

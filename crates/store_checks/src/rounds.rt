@@ -1,5 +1,5 @@
 //! What stands on the values devices.
-ghost use Rattle.std.specs.Prelude.{◌≡◌, ℕ, ◌<◌, ◌≤◌, ◌==◌, ◌&&◌, nat_le, List, length, slice_index_or, Some, None, IfOk, IfErr, OnOk, true};
+ghost use Rattle.std.specs.Prelude.{◌≡◌, ◌≢◌, ℕ, ◌<◌, ◌≤◌, ◌==◌, ◌&&◌, nat_le, List, length, slice_index_or, Some, None, IfOk, IfErr, OnOk, true, Err};
 ghost use Rattle.ports.specs.Faults.{Rose};
 ghost use Rattle.partitioner.specs.Splits.{IsSplit};
 ghost use Rattle.store_model.specs.Slots;
@@ -33,7 +33,7 @@ pub(crate) fn read_slot<D: Disk>(
     ensures read { (told : List ℕ) → (D.state disk.now).bytes ≡ Some told → IfOk result (TellsSlot (own_in split.now engine) slot told) }
     ensures sound { (told : List ℕ) → (D.state disk.now).bytes ≡ Some told → OnOk result (is_good_slot (own_in split.now engine) slot told ≡ true) }
     ensures later { D.M.faults meter.old ≤ D.M.faults meter.new }
-    ensures calm { OnOk result (D.M.faults meter.new ≡ D.M.faults meter.old) }
+    ensures calm { result ≢ Err RecoverFault.DiskFault → D.M.faults meter.new ≡ D.M.faults meter.old }
     ensures cause { IfErr result (HasRecoverCause (Rose (D.M.faults meter.old) (D.M.faults meter.new))
         (λ fault. (told : List ℕ) → (D.state disk.now).bytes ≡ Some told → slot_fault (own_in split.now engine) engine slot told ≡ Some fault)) }
 {
@@ -86,7 +86,7 @@ pub fn check_values<D: Disk>(
     ensures exact { OnOk result ((e : ℕ) (d : _) → e < length values.now → (D.state (slice_index_or values.now e d)).size ≡ device_size (own_in split.now e)) }
     ensures sound { (told : List (List ℕ)) → Tell D.state values.now told → OnOk result (first_over (λ e. device_fault (own_in split.now e) e (device told e)) (length told) ≡ None) }
     ensures later { D.M.faults meter.old ≤ D.M.faults meter.new }
-    ensures calm { OnOk result (D.M.faults meter.new ≡ D.M.faults meter.old) }
+    ensures calm { result ≢ Err RecoverFault.DiskFault → D.M.faults meter.new ≡ D.M.faults meter.old }
     ensures cause { IfErr result (HasRecoverCause (Rose (D.M.faults meter.old) (D.M.faults meter.new))
         (λ fault. (told : List (List ℕ)) → Tell D.state values.now told → first_over (λ e. device_fault (own_in split.now e) e (device told e)) (length told) ≡ Some fault)) }
 {
@@ -110,7 +110,7 @@ fn check_device<D: Disk>(
     ensures exact { OnOk result ((D.state disk.now).size ≡ device_size (own_in split.now engine)) }
     ensures sound { (told : List ℕ) → (D.state disk.now).bytes ≡ Some told → OnOk result (device_fault (own_in split.now engine) engine told ≡ None) }
     ensures later { D.M.faults meter.old ≤ D.M.faults meter.new }
-    ensures calm { OnOk result (D.M.faults meter.new ≡ D.M.faults meter.old) }
+    ensures calm { result ≢ Err RecoverFault.DiskFault → D.M.faults meter.new ≡ D.M.faults meter.old }
     ensures cause { IfErr result (HasRecoverCause (Rose (D.M.faults meter.old) (D.M.faults meter.new))
         (λ fault. (told : List ℕ) → (D.state disk.now).bytes ≡ Some told → device_fault (own_in split.now engine) engine told ≡ Some fault)) }
 {

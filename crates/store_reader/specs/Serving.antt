@@ -83,11 +83,10 @@ pub record IsFoundChunk {D M X : Type 0} (state : D → DiskState) (layout : Lay
   pub stands : IfSome (told_at state serving.shelf engine (place_at serving.index.now engine partition t).lane)
       (λ bytes. (items : List X) × IsChunkIn layout serving.split.now most partition (place_at serving.index.now engine partition t).at bytes items)
 
--- so where no read failed and no chunk was refused
+-- so unless a read failed
 abbrev pub OnServed : Served → Type 0 → Type 0
-OnServed (Chunk count) P = P
-OnServed Exhausted P = P
-OnServed _ P = ⊤
+OnServed DiskFault P = ⊤
+OnServed _ P = P
 
 -- What each answer says: of the claim, and of the chunk that was taken.
 abbrev pub HasServed : (claims : Claim → Type 0) (reads : (t count : ℕ) → Type 0) (rose : Type 0) (refuses : (t at : ℕ) → Type 0) → Served → Type 0

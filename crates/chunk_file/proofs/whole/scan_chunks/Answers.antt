@@ -67,7 +67,7 @@ chunks-preserved g c =
         c.if-total-ge-MOST_PLACES.false,
       );
       later = omega (arith, c.chunks.invariant.later, c.in-Ok.ensures.later);
-      calm = c.in-Ok.ensures.calm ∙ c.chunks.invariant.calm;
+      calm = c.in-Ok.ensures.calm (λ is. absurd cc) ∙ c.chunks.invariant.calm;
       scanned =
           as_told_of_three (λ bytes. Scanned c.args.format c.args.split.now most c.args.engine bytes c.args.into.now c.chunks.into (drop c.chunks.at bytes))
           (λ bytes. size ≡ length bytes) (λ bytes. IsNext c.args.format c.args.split.now most c.chunks.at bytes partition c.in-Ok.found.size)

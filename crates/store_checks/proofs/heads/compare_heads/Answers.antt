@@ -14,7 +14,7 @@ loop-e-preserved g c =
           over_more (λ e. other_fault c.args.first.now e (head_of told e)) c.loop-e.e (c.loop-e.invariant.sound told tell)
           (c.in_default.ensures.sound (device told c.loop-e.e) (tell_at g.D.Disk.state c.args.graphs.now told c.loop-e.e x tell c.loop-e-test.true c.index-graphs-e.is));
       later = omega (arith, c.loop-e.invariant.later, c.same_head.ensures.later);
-      calm = c.in_default.ensures.calm ∙ c.loop-e.invariant.calm;
+      calm = c.in_default.ensures.calm (λ is. absurd cc) ∙ c.loop-e.invariant.calm;
     }
 
 pub returns-in-Err-clause-cause : goal.returns-in-Err-clause-cause

@@ -33,7 +33,7 @@ loop-e-preserved g c =
           one_scanned job split told c.loop-e.e c.loop-e.index c.scan-scanned.new.into (omega (arith, c.loop-e-test.true, c.requires.few)) (c.loop-e.invariant.scanned told tell)
           (subst (λ b. IfSome b (λ bytes. Scanned job.format split job.chunk c.loop-e.e bytes c.loop-e.index c.scan-scanned.new.into [])) is c.in_default.ensures.all);
       later = omega (arith, c.loop-e.invariant.later, c.scan-scanned.ensures.later);
-      calm = c.in_default.ensures.calm ∙ c.loop-e.invariant.calm;
+      calm = c.in_default.ensures.calm (λ is. absurd cc) ∙ c.loop-e.invariant.calm;
     }
 
 pub returns-in-Err-scanned-clause-cause : goal.returns-in-Err-scanned-clause-cause

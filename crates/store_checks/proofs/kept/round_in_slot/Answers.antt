@@ -40,7 +40,7 @@ loop-e-init g c =
       slot = within.0;
       within = within.1;
       later = c.in-Ok-Some.ensures.later;
-      calm = c.in-Ok-Some.ensures.calm;
+      calm = c.in-Ok-Some.ensures.calm (λ is. absurd cc);
     }
 
 pub returns-in-Err-read_slot-clause-cause : goal.returns-in-Err-read_slot-clause-cause
@@ -81,7 +81,7 @@ loop-e-preserved g c =
       slot = subst (λ r. r % 2 ≡ c.args.slot) (sym c.in-Some.ensures.round) c.loop-e.invariant.slot;
       within = omega (arith, c.in-Some.ensures.round, c.loop-e.invariant.within);
       later = omega (arith, c.loop-e.invariant.later, c.in-Ok.ensures.later);
-      calm = c.in-Ok.ensures.calm ∙ c.loop-e.invariant.calm;
+      calm = c.in-Ok.ensures.calm (λ is. absurd cc) ∙ c.loop-e.invariant.calm;
     }
 
 pub returns-clause-finds : goal.returns-clause-finds

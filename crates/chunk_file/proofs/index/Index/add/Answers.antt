@@ -5,7 +5,8 @@ use Rattle.std.specs.Global.{Global}
 use Rattle.chunk_file.specs.declared.index.Place.{Place}
 use Rattle.chunk_file.specs.Places.{no_places, with_place}
 use Rattle.chunk_file.specs.Inside.{lists_in}
-use Rattle.chunk_file.proofs.Lists.{same_index, more_index, same_lists, more_lists, total-below}
+use Rattle.graph_model.proofs.VecLists.{same_lists, more_lists}
+use Rattle.chunk_file.proofs.Lists.{same_index, more_index, total-below}
 use Rattle.chunk_file.proofs.index.Index.add.Goals as goal
 
 pub invariant_of-self : goal.invariant_of-self
