@@ -167,12 +167,12 @@ pub stopped_by : (job : Job) (text : Option (List ℕ)) (rose read : Type 0) (by
 stopped_by job text rose read make.DiskFault cause = cause refl
 stopped_by job text rose read make.Memory cause = tt
 
--- and what is calm but for a fault of a device stays so in the answer
+-- calm but for a fault of a device, also in words of the answer
 pub stopped_calm : {T U P : Type 0} (by : MakeFault) → (◌≢◌ {A = Result T MakeFault} (Err by) (Err make.DiskFault) → P) → ◌≢◌ {A = Result U PrepareFault} (Err (stopped by)) (Err DiskFault) → P
 stopped_calm make.DiskFault calm no_fault = absurd (no_fault refl)
 stopped_calm make.Memory calm no_fault = calm (λ is. absurd cc)
 
--- which is no answer of the text
+-- no such answer is one of the text
 pub not_of_text : (by : MakeFault) → IsOfText (stopped by) → ⊥
 not_of_text make.DiskFault of_text = of_text
 not_of_text make.Memory of_text = of_text
