@@ -1,9 +1,8 @@
 -- What reads of a values device find.
-use Rattle.std.specs.Prelude.{◌≡◌, ◌↔◌, ◌<◌, ℕ, List, IsTrue, length, slice_index_or}
-use Rattle.ports.specs.Disk.{DiskState}
+use Rattle.std.specs.Prelude.{◌≡◌, ◌↔◌, ℕ, List, IsTrue}
 use Rattle.graph_model.specs.Partitions.{master_of, own_before, own_count, part_len}
 use Rattle.partitioner.specs.declared.split.Split.{Split}
-use Rattle.store_model.specs.Slots.{IsOpen, slot_numbers, number_bytes, device_size}
+use Rattle.store_model.specs.Slots.{IsOpen, slot_numbers, number_bytes}
 use Rattle.store_reader.specs.declared.store.SlotHead.{SlotHead}
 
 -- the vertices of an engine, of a partition, and of the lower partitions of the same master
@@ -18,11 +17,6 @@ len_in split p = part_len split.vertices split.parts p
 
 abbrev pub before_in : Split → (p : ℕ) → ℕ
 before_in split p = own_before split.vertices split.engines split.parts p
-
--- one values device for each engine, of the exact size for its vertices
-pub record AreValueDevices {X : Type 0} (state : X → DiskState) (split : Split) (devices : List X) : Type 0 where
-  pub many : length devices ≡ split.engines
-  pub exact : (e : ℕ) (d : X) → e < length devices → (state (slice_index_or devices e d)).size ≡ device_size (own_in split e)
 
 -- the head of a slot says what stands there
 pub record TellsHead (own slot : ℕ) (head : SlotHead) (bytes : List ℕ) : Type 0 where
