@@ -1,20 +1,11 @@
--- Moves to desks and back.
-use Rattle.std.proofs.Common.{◌≡◌, ℕ, suc, ◌+◌, ◌-◌, ◌^◌, ◌<◌, ◌≤◌, nat_lt, Bool, true, false, min, List, [], ◌∷◌, ◌++◌, length, map, refl, sym, subst, arith, slice_index_or}
+-- What desks say while they are dealt and collected.
+use Rattle.std.proofs.Common.{◌≡◌, ℕ, suc, ◌+◌, ◌-◌, ◌^◌, ◌<◌, ◌≤◌, nat_lt, Bool, true, false, min, List, [], ◌∷◌, ◌++◌, length, map, refl, subst, arith, slice_index_or}
 use Rattle.std.specs.List.{All}
-use Rattle.std.proofs.lemmas.Grind.{common_steps}
 use Rattle.std.proofs.lemmas.Bool.{ltb-true, ltb-false}
 use Rattle.std.proofs.lemmas.List.{get_or_append_left, get_or_push}
-use Rattle.std.proofs.lemmas.List.Elements.{All-push}
 use Rattle.std.proofs.lemmas.List.Sums.{sum_by-cons}
 use Rattle.checkpoint.specs.declared.apply.ApplyDesk.{ApplyDesk}
 use Rattle.apply_round.specs.Crew.{capped}
-
--- one item more stands behind the others, and one less waits
-pub moved_in : {A B : Type 0} (f : A → B) (xs xs' : List A) (x : A) (ys ys' all : List B) → xs' ≡ xs ++ x ∷ [] → ys ≡ f x ∷ ys' → map f xs ++ ys ≡ all → map f xs' ++ ys' ≡ all
-moved_in f xs xs' x ys ys' all more taken before = grind (arith, common_steps)
-
-pub moved_back : {A B : Type 0} (f : A → B) (xs xs' : List A) (x : A) (ys ys' all : List B) → xs ≡ x ∷ xs' → ys' ≡ ys ++ f x ∷ [] → ys ++ map f xs ≡ all → ys' ++ map f xs' ≡ all
-moved_back f xs xs' x ys ys' all taken more before = grind (arith, common_steps)
 
 pub capped_step : (a b : ℕ) (rest : List ℕ) → capped (min (a + b) (2 ^ 64 - 1) ∷ rest) ≡ capped (a ∷ b ∷ rest)
 capped_step a b rest = omega (arith, sum_by-cons (λ (x : ℕ). x) (min (a + b) (2 ^ 64 - 1)) rest, sum_by-cons (λ (x : ℕ). x) a (b ∷ rest), sum_by-cons (λ (x : ℕ). x) b rest)
@@ -32,9 +23,6 @@ engines_more desks desks' desk count more long here before e d below = place (na
     place false is =
         let higher : count ≤ e = ltb-false e count is in
         rw (more, get_or_push desks desk d e (omega arith)) (omega arith)
-
-pub all_more : {A : Type 0} (P : A → Type 0) (xs xs' : List A) (x : A) → xs' ≡ xs ++ x ∷ [] → All P xs → P x → All P xs'
-all_more P xs xs' x more each here = subst (All P) (sym more) (All-push P xs x each here)
 
 pub all_rest : {A : Type 0} (P : A → Type 0) (xs xs' : List A) (x : A) → xs ≡ x ∷ xs' → All P xs → P x × All P xs'
 all_rest P xs xs' x first each = let whole : All P (x ∷ xs') = subst (All P) first each in (whole 0 x (omega arith), λ k d below. whole (suc k) d (omega (arith, below)))

@@ -88,6 +88,7 @@ fn work_all<R: Threads + Sync, P: VertexProgram, D: Disk>(
 }
 
 /// Moves what is on the desks back to its place, and says how apply has ended.
+#[tactic(auto, using(list_moves::proofs::Moving::back_more))]
 fn collect<D: Disk>(
     desks: &mut Vec<ApplyDesk<D>>,
     rooms: &mut Vec<ApplyRoom>,

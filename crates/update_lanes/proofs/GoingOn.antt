@@ -1,7 +1,7 @@
 -- Calls of lanes, one after another.
 use Rattle.std.proofs.Common.{◌≡◌, ℕ, List, length, get_or, set, refl, sym, ◌∙◌, ap, arith}
-use Rattle.std.specs.Prelude.{Result, Ok, Err, IfErr, OnOk, OnErr}
-use Rattle.std.specs.Result.{IsErr, IsErrAnd}
+use Rattle.std.specs.Prelude.{Result, Ok, Err, IfErr}
+use Rattle.std.specs.Result.{IsErrAnd}
 use Rattle.std.proofs.Math.Seq.{map-set_same}
 use Rattle.ports.specs.Disk.{DiskState}
 use Rattle.ports.proofs.Rising.{one_rose_before, one_rose_after}
@@ -35,11 +35,3 @@ none_rose state lanes e old new lane calm = map-set_same (λ x. (state x).faults
 pub err_cause : {T E : Type 0} (r : Result T E) (P Q : E → Type 0) → ((fault : E) → P fault → Q fault) → IsErrAnd r P → IfErr r Q
 err_cause (Ok x) P Q means is = tt
 err_cause (Err fault) P Q means is = means fault is
-
-pub on_err : {T E : Type 0} (r : Result T E) (Q : Type 0) → IsErr r → Q → OnErr r Q
-on_err (Ok x) Q is holds = tt
-on_err (Err fault) Q is holds = holds
-
-pub on_ok : {T E : Type 0} (r : Result T E) (A B : Type 0) → (A → B) → OnOk r A → OnOk r B
-on_ok (Ok x) A B means holds = means holds
-on_ok (Err fault) A B means holds = tt

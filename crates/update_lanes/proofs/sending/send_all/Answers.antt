@@ -6,7 +6,8 @@ use Rattle.graph_model.specs.Programs.{Rules}
 use Rattle.phase_model.specs.Sends.{Sending, update_to, sent_along, sent_by}
 use Rattle.update_lanes.specs.Outgoing.{SendsOn}
 use Rattle.update_lanes.specs.Sending.{sending_all}
-use Rattle.update_lanes.proofs.GoingOn.{rose_since, err_cause, on_err}
+use Rattle.ports.proofs.Rising.{on_err}
+use Rattle.update_lanes.proofs.GoingOn.{rose_since, err_cause}
 use Rattle.update_lanes.proofs.Sends.{sent_by-next, sends_then, stops_then, length-sent_by}
 use Rattle.update_lanes.proofs.sending.send_all.Goals as goal
 
@@ -41,7 +42,7 @@ returns-in_err-put-clause-stops g c =
     let i = c.edges.edge-index in
     let s : Sending = sending_all (g.P.VertexProgram.rules c.args.program.now) c.args.first c.args.now.now in
     let few : length (sent_by s (take i c.args.edges.now)) ≤ length c.args.edges.now = omega (arith, length-sent_by s (take i c.args.edges.now), length-take i c.args.edges.now) in
-    on_err c.from_residual.result _ c.from_residual.ensures.0
+    on_err c.from_residual.result
     (stops_then g.D.Disk.state c.args.beat.now c.args.out.now c.edges.out c.put.new.out c.args.lanes.now c.edges.lanes c.put.new.lanes c.args.places.now.items c.edges.places.items c.put.new.places.items (sent_by s (take i c.args.edges.now)) (length c.args.edges.now)
     c.edges.invariant.sends c.put.ensures.same c.put.ensures.room c.put.ensures.lanes c.in_err-put.ensures.kept few)
 

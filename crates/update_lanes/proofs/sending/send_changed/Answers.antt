@@ -6,7 +6,8 @@ use Rattle.graph_model.specs.Programs.{Rules}
 use Rattle.phase_model.specs.Sends.{update_to}
 use Rattle.update_lanes.specs.Outgoing.{SendsOn}
 use Rattle.update_lanes.specs.Sending.{value_from}
-use Rattle.update_lanes.proofs.GoingOn.{rose_since, err_cause, on_err}
+use Rattle.ports.proofs.Rising.{on_err}
+use Rattle.update_lanes.proofs.GoingOn.{rose_since, err_cause}
 use Rattle.update_lanes.proofs.Sends.{sends_then, stops_then}
 use Rattle.update_lanes.proofs.Marked.{sent_marked, sent_by_marked, marked-next, length-sent_by_marked, marked_is_changed}
 use Rattle.update_lanes.proofs.sending.send_changed.Goals as goal
@@ -43,7 +44,7 @@ returns-in_err-put-clause-stops g c =
     let rules_of : Rules = g.P.VertexProgram.rules c.args.program.now in
     let few : length (sent_by_marked rules_of c.args.first c.args.now.now c.args.changed.now (take i c.args.edges.now)) ≤ length c.args.edges.now =
     omega (arith, length-sent_by_marked rules_of c.args.first c.args.now.now c.args.changed.now (take i c.args.edges.now), length-take i c.args.edges.now) in
-    on_err c.from_residual.result _ c.from_residual.ensures.0
+    on_err c.from_residual.result
     (stops_then g.D.Disk.state c.args.beat.now c.args.out.now c.edges.out c.put.new.out c.args.lanes.now c.edges.lanes c.put.new.lanes c.args.places.now.items c.edges.places.items c.put.new.places.items
     (sent_by_marked rules_of c.args.first c.args.now.now c.args.changed.now (take i c.args.edges.now)) (length c.args.edges.now)
     c.edges.invariant.sends c.put.ensures.same c.put.ensures.room c.put.ensures.lanes c.in_err-put.ensures.kept few)
