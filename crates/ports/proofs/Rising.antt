@@ -29,11 +29,14 @@ one_rose_after count olds mids news many rose later =
 pub rose_here : {X : Type 0} (count : X → ℕ) (olds mids : List X) (k : ℕ) (mid new : X) → length mids ≡ length olds → k < length mids → NoneFalls count olds mids
     → Rose (count (get_or mids k mid)) (count new) → OneCountRose count olds (set mids k new)
 rose_here {X} count olds mids k mid new many within earlier rose =
-    let below : k < length olds = omega (arith, within, many) in
-    (k, below, λ x.
-        subst (λ (y : X). Rose (count (get_or olds k x)) (count y)) (sym (get_or-set_same mids k new x within))
-        (count_rose_before (count (get_or olds k x)) (count (get_or mids k x)) (count new) (earlier k x below)
-        (subst (λ (y : X). Rose (count y) (count new)) (get_or_default mids k mid x within) rose)))
+    let below : k < length olds = omega (arith, within, many) in (
+      k,
+      below,
+      λ x.
+          subst (λ (y : X). Rose (count (get_or olds k x)) (count y)) (sym (get_or-set_same mids k new x within))
+          (count_rose_before (count (get_or olds k x)) (count (get_or mids k x)) (count new) (earlier k x below)
+          (subst (λ (y : X). Rose (count y) (count new)) (get_or_default mids k mid x within) rose)),
+    )
 
 -- nor in a call that left its count as it was
 pub same_here : {X C : Type 0} (count : X → C) (olds mids : List X) (k : ℕ) (mid new : X) → SameCounts count olds mids → count new ≡ count (get_or mids k mid) → SameCounts count olds (set mids k new)
