@@ -1,19 +1,11 @@
 -- Lists, each in a Vec of its own, one of which was lent.
-use Rattle.std.proofs.Common.{◌≡◌, ℕ, ◌+◌, ◌<◌, List, Vec, [], ◌∷◌, ◌++◌, length, map, replicate, get_or, set, sym, ◌∙◌, ap}
+use Rattle.std.proofs.Common.{◌≡◌, ℕ, ◌<◌, List, Vec, [], ◌∷◌, ◌++◌, length, map, get_or, set, sym, ◌∙◌, ap}
 use Rattle.std.specs.Global.{Global}
-use Rattle.std.proofs.lemmas.List.{map-append, map-set, set-get_or, get_or-map, replicate_more}
+use Rattle.std.proofs.lemmas.List.{map-set, set-get_or, get_or-map}
 
 module _ {X : Type 0} where
   abbrev pub items_of : List (Vec X Global) → List (List X)
   items_of vs = map (λ (v : Vec X Global). v.items) vs
-
-  -- one list more, an empty one
-  pub lists_more : (vs : List (Vec X Global)) (v : Vec X Global) (n : ℕ) → items_of vs ≡ replicate n [] → v.items ≡ [] → items_of (vs ++ v ∷ []) ≡ replicate (n + 1) []
-  lists_more vs v n so_far empty =
-      map-append (λ (w : Vec X Global). w.items) vs (v ∷ [])
-      ∙ ap (λ xs. xs ++ v.items ∷ []) so_far
-      ∙ ap (λ x. replicate n [] ++ x ∷ []) empty
-      ∙ replicate_more n []
 
   -- the list that was lent
   pub lent_is : (vs : List (Vec X Global)) (k : ℕ) (x : Vec X Global) → x ≡ get_or vs k x → k < length vs → x.items ≡ get_or (items_of vs) k []
