@@ -28,9 +28,13 @@ done_or Memory other = inr (other (λ is. cc))
 -- What was dealt to desks, and came back from them.
 module _ {X Y : Type 0} (f : X → Y) (count : Y → ℕ) (olds news : List X) (same : length news ≡ length olds) where
   rose_at : (w : ℕ) (x : X) → w < length olds → Rose (count (f (slice_index_or olds w x))) (count (f (slice_index_or news w x))) → OneCountRose count (map f olds) (map f news)
-  rose_at w x below rose = (w, omega (arith, length-map olds f), λ y.
-      subst (λ (z : Y). Rose (count z) (count (slice_index_or (map f news) w y))) (sym (get_or-map f olds w x y below))
-      (subst (λ (z : Y). Rose (count (f (slice_index_or olds w x))) (count z)) (sym (get_or-map f news w x y (omega arith))) rose))
+  rose_at w x below rose = (
+    w,
+    omega (arith, length-map olds f),
+    λ y.
+        subst (λ (z : Y). Rose (count z) (count (slice_index_or (map f news) w y))) (sym (get_or-map f olds w x y below))
+        (subst (λ (z : Y). Rose (count (f (slice_index_or olds w x))) (count z)) (sym (get_or-map f news w x y (omega arith))) rose),
+  )
 
   later_at : ((w : ℕ) (x : X) → w < length olds → count (f (slice_index_or olds w x)) ≤ count (f (slice_index_or news w x)))
       → (w : ℕ) (y : Y) → w < length (map f olds) → count (slice_index_or (map f olds) w y) ≤ count (slice_index_or (map f news) w y)
