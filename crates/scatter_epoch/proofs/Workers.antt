@@ -6,7 +6,7 @@ use Rattle.std.specs.List.{All, enumerate_from}
 use Rattle.std.proofs.Math.Nat.{mod-lt}
 use Rattle.std.proofs.lemmas.Bool.{lt-ltb, ne_eqb}
 use Rattle.std.proofs.lemmas.List.{append-nil, map-append, length-map, take_more}
-use Rattle.std.proofs.lemmas.List.Elements.{filter-append, All-append, All-map}
+use Rattle.std.proofs.lemmas.List.Elements.{filter-append, All-append, All-map, All-weaker}
 use Rattle.graph_model.specs.declared.value.Update.{Update}
 use Rattle.graph_model.specs.declared.job.Job.{Job}
 use Rattle.graph_model.specs.Jobs.{IsWellFormedJob, parts_of}
@@ -141,15 +141,12 @@ module _ (job : Job) (good : IsWellFormedJob job) (epoch : ℕ) where
 all_lane : (w e p : ℕ) (own : List Placed) → All (λ (place : Place). place.lane ≡ w) (places_at w e p own)
 all_lane w e p own = All-map (λ (place : Place). place.lane ≡ w) (λ (q : Placed). record { lane = w; at = q.at }) (filter (λ (q : Placed). (q.engine == e) && (q.partition == p)) own) (λ k d below. refl)
 
-all_weaker : {A : Type 0} (P Q : A → Type 0) (xs : List A) → ((x : A) → P x → Q x) → All P xs → All Q xs
-all_weaker P Q xs weaker each k d below = weaker (get_or xs k d) (each k d below)
-
 pub lanes_below : (w e p : ℕ) (lists : List (List Placed)) → All (λ (place : Place). place.lane < w + length lists) (all_places w e p lists)
 lanes_below w e p [] = λ k d below. absurd (omega arith)
 lanes_below w e p (own ∷ others) =
     All-append (λ (place : Place). place.lane < w + length (own ∷ others)) (places_at w e p own) (all_places (w + 1) e p others)
-    (all_weaker (λ (place : Place). place.lane ≡ w) (λ (place : Place). place.lane < w + length (own ∷ others)) (places_at w e p own) (λ place is. omega (arith, is)) (all_lane w e p own))
-    (all_weaker (λ (place : Place). place.lane < w + 1 + length others) (λ (place : Place). place.lane < w + length (own ∷ others)) (all_places (w + 1) e p others) (λ place is. omega (arith, is)) (lanes_below (w + 1) e p others))
+    (All-weaker (λ (place : Place). place.lane ≡ w) (λ (place : Place). place.lane < w + length (own ∷ others)) (λ place is. omega (arith, is)) (places_at w e p own) (all_lane w e p own))
+    (All-weaker (λ (place : Place). place.lane < w + 1 + length others) (λ (place : Place). place.lane < w + length (own ∷ others)) (λ place is. omega (arith, is)) (all_places (w + 1) e p others) (lanes_below (w + 1) e p others))
 
 -- one worker more in an index
 pub all_places-more : (w e p : ℕ) (lists : List (List Placed)) (own : List Placed) → all_places w e p (lists ++ own ∷ []) ≡ all_places w e p lists ++ places_at (w + length lists) e p own
