@@ -1,5 +1,5 @@
 -- How the making of a store ends: in its first beat, or in the second.
-use Rattle.std.proofs.Common.{◌≡◌, ◌∙◌, ◌⊎◌, inl, inr, ℕ, ◌+◌, ◌<◌, ◌≤◌, ◌++◌, List, length, take, drop, get_or, Option, Some, None, IfSome, Result, Ok, Err, refl, sym, ap, subst, arith}
+use Rattle.std.proofs.Common.{◌≡◌, ◌≢◌, ◌∙◌, ◌⊎◌, inl, inr, ℕ, ◌+◌, ◌<◌, ◌≤◌, ◌++◌, List, length, take, drop, get_or, Option, Some, None, IfSome, Result, Ok, Err, refl, sym, ap, subst, arith}
 use Rattle.std.specs.List.{All}
 use Rattle.std.proofs.lemmas.List.{take_at}
 use Rattle.chunk_file.specs.declared.index.TheConstants.{MOST_PLACES}
@@ -125,8 +125,9 @@ pub prepared_first : {X : Type 0} (state : X → DiskState) (job : Job) (text le
     → Each state (Step IsShutGraph number) graphs graphs' → Each state (Step Anything number) values values'
     → (IsOfText fault → All (λ x. InEveryImage (state x) IsShutGraph) graphs')
     → HasPrepareCause job text (OneRose state graphs graphs' ⊎ OneRose state values values') read fault
+    → (◌≢◌ {A = Result (List (List Place)) PrepareFault} (Err fault) (Err DiskFault) → NoneRose state graphs graphs' × NoneRose state values values')
     → Prepares state job text left number number read graphs graphs' values values' (Err fault)
-prepared_first state job text left number read graphs graphs' values values' fault many many' beats beats' steps steps' shut cause = record {
+prepared_first state job text left number read graphs graphs' values values' fault many many' beats beats' steps steps' shut cause calm = record {
   many = (steps.many ∙ many, steps'.many ∙ many');
   graph_beats = beats_after state IsShutGraph number graphs graphs' beats steps;
   value_beats = beats_after state Anything number values values' beats' steps';
@@ -145,7 +146,7 @@ prepared_first state job text left number read graphs graphs' values values' fau
   shut = λ of_text e d below. shut of_text e d (omega (arith, below, many, steps.many));
   cause = cause;
   last = λ now. absurd (omega (arith, now));
-  calm = tt;
+  calm = calm;
 }
 
 pub prepared_second : {X : Type 0} (state : X → DiskState) (job : Job) (text left : Option (List ℕ)) (number : ℕ) (read : Type 0) (graphs mids graphs' values values' : List X) (es : List Edge) (index : List (List Place)) → ((x : X) → IsDisk (state x))
@@ -177,7 +178,7 @@ prepared_second state job text left number read graphs mids graphs' values value
       shut = tt;
       cause = tt;
       last = tt;
-      calm = calm;
+      calm = λ _. calm;
     }
 
 pub prepared_opening_failed : {X : Type 0} (state : X → DiskState) (job : Job) (text left : Option (List ℕ)) (number : ℕ) (read : Type 0) (graphs mids graphs' values values' : List X) (es : List Edge) (index : List (List Place)) → ((x : X) → IsDisk (state x))
@@ -208,7 +209,7 @@ prepared_opening_failed state job text left number read graphs mids graphs' valu
       shut = λ of_text. absurd of_text;
       cause = inl (one_rose_later state IsShutGraph number graphs mids graphs' steps rose);
       last = λ now. refl;
-      calm = tt;
+      calm = λ no_fault. absurd (no_fault refl);
     }
 
 -- The devices of two vectors that were lent as slices.

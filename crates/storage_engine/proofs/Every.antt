@@ -1,13 +1,12 @@
 -- Steps over several devices, one device after another.
-use Rattle.std.proofs.Common.{◌≡◌, ◌∙◌, ℕ, ◌+◌, ◌<◌, ◌≤◌, List, length, get_or, set, refl, sym, subst, arith}
-use Rattle.std.proofs.lemmas.List.{get_or-set_same, get_or-set_other, get_or_default, length-set}
-use Rattle.std.proofs.Math.Seq.{map-set_same}
+use Rattle.std.proofs.Common.{◌≡◌, ◌∙◌, ℕ, ◌+◌, ◌<◌, List, length, get_or, set, refl, subst, arith}
+use Rattle.std.proofs.lemmas.List.{get_or_default, length-set}
 use Rattle.ports.specs.Disk.{DiskState, IsDisk, InEveryImage}
-use Rattle.ports.specs.Faults.{Rose}
-use Rattle.ports.proofs.Rising.{count_rose_before, one_rose_before, one_rose_after}
+use Rattle.ports.proofs.Rising.{one_rose_before, one_rose_after, same_here}
 use Rattle.ports.specs.Devices.{Each, OneRose, NoneRose}
 use Rattle.store_model.specs.Heads.{IsShutGraph}
 use Rattle.graph_model.proofs.ListLemmas.{at_set}
+use Rattle.graph_model.proofs.OneByOne.{DoneBelow, none_done, next_steps, one_done}
 use Rattle.storage_engine.specs.Steps.{Anything, Step, IsClosedFront, Opens}
 use Rattle.storage_engine.proofs.Keeping.{step_same, step_then, step_anything, closed_step, opens_same}
 
@@ -34,17 +33,6 @@ each_then state P number olds mids news laws first next = record {
   each = λ e d within. step_then P number (state (get_or olds e d)) (state (get_or mids e d)) (state (get_or news e d)) (laws (get_or mids e d)) (first.each e d within) (next.each e d (omega (arith, within, first.many)));
 }
 
-pub one_rose_here : {X : Type 0} (state : X → DiskState) (P : List ℕ → Type 0) (number : ℕ) (olds mids : List X) (e : ℕ) (mid new : X) → e < length mids → Each state (Step P number) olds mids
-    → Rose (state (get_or mids e mid)).faults (state new).faults → OneRose state olds (set mids e new)
-one_rose_here {X} state P number olds mids e mid new within all rose = (
-  e,
-  omega (arith, within, all.many),
-  λ d.
-      subst (λ x. Rose (state (get_or olds e d)).faults (state x).faults) (sym (get_or-set_same mids e new d within))
-      (count_rose_before _ (state (get_or mids e d)).faults _ (all.each e d (omega (arith, within, all.many))).faults
-      (subst (λ x. Rose (state x).faults (state new).faults) (get_or_default mids e mid d within) rose)),
-)
-
 -- it rose in the second of two runs, or in the first
 pub one_rose_later : {X : Type 0} (state : X → DiskState) (P : List ℕ → Type 0) (number : ℕ) (olds mids news : List X) → Each state (Step P number) olds mids → OneRose state mids news → OneRose state olds news
 one_rose_later state P number olds mids news first rose = one_rose_before (λ x. (state x).faults) olds mids news first.many (λ e d below. (first.each e d below).faults) rose
@@ -52,43 +40,32 @@ one_rose_later state P number olds mids news first rose = one_rose_before (λ x.
 pub one_rose_earlier : {X : Type 0} (state : X → DiskState) (P : List ℕ → Type 0) (number : ℕ) (olds mids news : List X) → length mids ≡ length olds → OneRose state olds mids → Each state (Step P number) mids news → OneRose state olds news
 one_rose_earlier state P number olds mids news many rose next = one_rose_after (λ x. (state x).faults) olds mids news many rose (λ e d below. (next.each e d (omega (arith, below, many))).faults)
 
--- none rose so far, nor in a call of one of them
-pub none_rose_here : {X : Type 0} (state : X → DiskState) (olds mids : List X) (e : ℕ) (mid new : X) → NoneRose state olds mids → (state new).faults ≡ (state (get_or mids e mid)).faults → NoneRose state olds (set mids e new)
-none_rose_here state olds mids e mid new before same = map-set_same (λ x. (state x).faults) mids e new mid same ∙ before
-
 -- The devices below a number have had their step, and the others no call; no count of faults rose.
-pub record DoneBelow {X : Type 0} (state : X → DiskState) (R : DiskState → DiskState → Type 0) (Q : ℕ → DiskState → DiskState → Type 0) (e : ℕ) (olds mids : List X) : Type 0 where
-  pub steps : Each state R olds mids
-  pub done : (k : ℕ) (d : X) → k < e → Q k (state (get_or olds k d)) (state (get_or mids k d))
-  pub rest : (k : ℕ) (d : X) → e ≤ k → get_or mids k d ≡ get_or olds k d
-  pub calm : NoneRose state olds mids
+module _ {X : Type 0} (state : X → DiskState) (R : DiskState → DiskState → Type 0) (Q : ℕ → DiskState → DiskState → Type 0) where
+  abbrev Steps : X → X → Type 0
+  Steps x y = R (state x) (state y)
 
-pub none_done : {X : Type 0} (state : X → DiskState) (R : DiskState → DiskState → Type 0) (Q : ℕ → DiskState → DiskState → Type 0) (disks : List X) → Each state R disks disks → DoneBelow state R Q 0 disks disks
-none_done state R Q disks same = record { steps = same; done = λ k d below. absurd (omega arith); rest = λ k d from. refl; calm = refl }
+  abbrev Done : ℕ → X → X → Type 0
+  Done k x y = Q k (state x) (state y)
 
-pub one_done : {X : Type 0} (state : X → DiskState) (R : DiskState → DiskState → Type 0) (Q : ℕ → DiskState → DiskState → Type 0) (e : ℕ) (olds mids : List X) (mid new : X) → e < length mids
-    → DoneBelow state R Q e olds mids → Each state R olds (set mids e new) → Q e (state (get_or mids e mid)) (state new)
-    → (state new).faults ≡ (state (get_or mids e mid)).faults → DoneBelow state R Q (e + 1) olds (set mids e new)
-one_done {X} state R Q e olds mids mid new within below steps now same_count = record {
-  steps = steps;
-  done = λ k d less.
-      at_set (λ j x. Q j (state (get_or olds j d)) (state x)) mids e k new d within
-      (λ same. subst (λ x. Q e (state x) (state new)) (get_or_default mids e mid d within ∙ below.rest e d (omega arith)) now)
-      (λ other. below.done k d (omega arith));
-  rest = λ k d from. get_or-set_other mids e k new d (omega arith) ∙ below.rest k d (omega arith);
-  calm = none_rose_here state olds mids e mid new below.calm same_count;
-}
+  pub record CalmBelow (e : ℕ) (olds mids : List X) : Type 0 where
+    pub below : DoneBelow Steps Done e olds mids
+    pub calm : NoneRose state olds mids
 
--- a step of a device that had none before
-pub each_set_first : {X : Type 0} (state : X → DiskState) (R : DiskState → DiskState → Type 0) (olds mids : List X) (e : ℕ) (mid new : X)
-    → e < length mids → Each state R olds mids → ((d : X) → get_or mids e d ≡ get_or olds e d) → R (state (get_or mids e mid)) (state new) → Each state R olds (set mids e new)
-each_set_first {X} state R olds mids e mid new within all untouched step = record {
-  many = length-set mids e new ∙ all.many;
-  each = λ k d below.
-      at_set (λ j x. R (state (get_or olds j d)) (state x)) mids e k new d within
-      (λ same. subst (λ x. R (state x) (state new)) (get_or_default mids e mid d within ∙ untouched d) step)
-      (λ other. all.each k d below);
-}
+  pub none_yet : (disks : List X) → Each state R disks disks → CalmBelow 0 disks disks
+  none_yet disks same = record { below = none_done Steps Done disks same.each; calm = refl }
+
+  module _ (e : ℕ) (olds mids : List X) (mid new : X) (within : e < length mids) (so_far : CalmBelow e olds mids) (step : R (state (get_or mids e mid)) (state new)) where
+    -- a step of the next one, whatever comes of it
+    pub each_next : Each state R olds (set mids e new)
+    each_next = record { many = length-set mids e new ∙ so_far.below.many; each = next_steps Steps Done e olds mids mid new within so_far.below step }
+
+    -- and where it succeeded
+    pub next_done : Q e (state (get_or mids e mid)) (state new) → (state new).faults ≡ (state (get_or mids e mid)).faults → CalmBelow (e + 1) olds (set mids e new)
+    next_done now same = record {
+      below = one_done Steps Done e olds mids mid new within so_far.below step now;
+      calm = same_here (λ (x : X). (state x).faults) olds mids e mid new so_far.calm same;
+    }
 
 pub each_opens_same : {X : Type 0} (state : X → DiskState) (number : ℕ) (disks : List X) → ((x : X) → IsDisk (state x)) → ((e : ℕ) (d : X) → e < length disks → InEveryImage (state (get_or disks e d)) IsClosedFront) → Each state (Opens number) disks disks
 each_opens_same state number disks laws closed = record { many = refl; each = λ e d within. opens_same number (state (get_or disks e d)) (laws (get_or disks e d)) (closed e d within) }

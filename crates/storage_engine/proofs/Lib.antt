@@ -4,7 +4,6 @@ pub mod Ends
 pub mod Every
 pub mod Flushing
 pub mod Keeping
-pub mod Lists
 pub mod OneChunk
 pub mod Texts
 pub mod TwoBeats

@@ -1,5 +1,5 @@
 -- A source that is read piece by piece, while its edges are given to a maker.
-use Rattle.std.proofs.Common.{◌≡◌, ◌∙◌, ℕ, ◌+◌, ◌<◌, ◌≤◌, inl, inr, List, [], ◌++◌, length, take, drop, Option, Some, None, IfSome, Bool, true, false, Ok, Err, refl, sym, ap, subst, arith, nat_lt}
+use Rattle.std.proofs.Common.{◌≡◌, ◌≢◌, ◌∙◌, ℕ, ◌+◌, ◌<◌, ◌≤◌, inl, inr, List, [], ◌++◌, length, take, drop, Option, Some, None, IfSome, Bool, true, false, Result, Ok, Err, refl, sym, ap, subst, arith, nat_lt}
 use Rattle.std.specs.List.{All}
 use Rattle.std.proofs.lemmas.List.{length-append, length-take, append-nil}
 use Rattle.std.proofs.lemmas.Bool.Decides.{nat_tests}
@@ -26,6 +26,8 @@ use Rattle.storage_engine.proofs.Few.{ended_few, text_few}
 use Rattle.storage_engine.specs.Preparing.{HasReadAll, HasPrepareCause, IsOfText, refused, stopped}
 use Rattle.storage_engine.specs.declared.fault.MakeFault.{MakeFault}
 use Rattle.storage_engine.specs.declared.fault.MakeFault.TheVariants as make
+use Rattle.storage_engine.specs.declared.fault.PrepareFault.{PrepareFault}
+use Rattle.storage_engine.specs.declared.fault.PrepareFault.TheVariants.{DiskFault}
 
 abbrev pub so_far : Job → List ℕ → List Edge
 so_far job fed = edges_of_lines job.vertices (takes_both_directions job.program) (ended_lines fed)
@@ -164,6 +166,11 @@ taken_all state job text left left' reader taken count into none new buffers buf
 pub stopped_by : (job : Job) (text : Option (List ℕ)) (rose read : Type 0) (by : MakeFault) → (by ≡ make.DiskFault → rose) → HasPrepareCause job text rose read (stopped by)
 stopped_by job text rose read make.DiskFault cause = cause refl
 stopped_by job text rose read make.Memory cause = tt
+
+-- and what is calm but for a fault of a device stays so in the answer
+pub stopped_calm : {T U P : Type 0} (by : MakeFault) → (◌≢◌ {A = Result T MakeFault} (Err by) (Err make.DiskFault) → P) → ◌≢◌ {A = Result U PrepareFault} (Err (stopped by)) (Err DiskFault) → P
+stopped_calm make.DiskFault calm no_fault = absurd (no_fault refl)
+stopped_calm make.Memory calm no_fault = calm (λ is. absurd cc)
 
 -- which is no answer of the text
 pub not_of_text : (by : MakeFault) → IsOfText (stopped by) → ⊥

@@ -1,5 +1,5 @@
 -- What `prepare` promises: the store that it makes, what a stop leaves meanwhile, and the cause of each refusal.
-use Rattle.std.specs.Prelude.{◌≡◌, ◌⊎◌, ℕ, ◌+◌, ◌<◌, ◌≤◌, List, [], length, Option, Some, IfSome, slice_index_or, Result, OnOk, IfOk, IfErr}
+use Rattle.std.specs.Prelude.{◌≡◌, ◌≢◌, ◌⊎◌, ℕ, ◌+◌, ◌<◌, ◌≤◌, List, [], length, Option, Some, IfSome, slice_index_or, Result, Err, OnOk, IfOk, IfErr}
 use Rattle.graph_model.specs.declared.edge.TextFault.TheVariants as text
 use Rattle.graph_model.specs.declared.edge.Edge.{Edge}
 use Rattle.graph_model.specs.declared.edge.TextFault.{TextFault}
@@ -116,5 +116,5 @@ pub record Prepares {X : Type 0} (state : X → DiskState) (job : Job) (text lef
   -- why it was refused; in the second beat only the opening of the gates fails
   pub cause : IfErr result (HasPrepareCause job text (OneRose state graphs graphs' ⊎ OneRose state values values') read)
   pub last : IfErr result (λ fault. now ≡ number + 1 → fault ≡ DiskFault)
-  -- no count of a device rose where the store was made
-  pub calm : OnOk result (NoneRose state graphs graphs' × NoneRose state values values')
+  -- no count of a device rose but where this is the answer
+  pub calm : result ≢ Err DiskFault → NoneRose state graphs graphs' × NoneRose state values values'

@@ -1,5 +1,5 @@
 //! A store, while its edges are given to it one by one.
-ghost use Rattle.std.specs.Prelude.{◌≡◌, ℕ, ◌+◌, ◌*◌, ◌<◌, ◌≤◌, ◌∷◌, [], ◌++◌, List, length, true, replicate, slice_index_or, slice_set, IfOk, OnOk, IfErr};
+ghost use Rattle.std.specs.Prelude.{◌≡◌, ◌≢◌, ℕ, ◌+◌, ◌*◌, ◌<◌, ◌≤◌, ◌∷◌, [], ◌++◌, List, length, true, replicate, slice_index_or, slice_set, Err, IfOk, OnOk, IfErr};
 ghost use Rattle.std.specs.List.{All};
 ghost use Rattle.graph_model.specs.declared.edge.Edge.{Edge};
 ghost use Rattle.graph_model.specs.Jobs.{IsWellFormedJob, span_of, parts_of};
@@ -82,7 +82,7 @@ impl Maker {
         ensures making { (before : List Edge) → IsMaking D.state self.old.job before self.old.buffers self.old.placer self.old.index graphs.old
             → OnOk result (IsMaking D.state self.old.job (before ++ edges.now) self.new.buffers self.new.placer self.new.index graphs.new) }
         ensures rose { IfErr result (λ fault. fault ≡ MakeFault.DiskFault → OneRose D.state graphs.old graphs.new) }
-        ensures calm { OnOk result (NoneRose D.state graphs.old graphs.new) }
+        ensures calm { result ≢ Err MakeFault.DiskFault → NoneRose D.state graphs.old graphs.new }
     {
         for k in 0..edges.len() {
             let edge = edges[k];
@@ -111,7 +111,7 @@ impl Maker {
         ensures making { (edges : List Edge) → IsMaking D.state self.old.job edges self.old.buffers self.old.placer self.old.index graphs.old
             → OnOk result (IsMaking D.state self.old.job (edges ++ edge ∷ []) self.new.buffers self.new.placer self.new.index graphs.new) }
         ensures cause { IfErr result (HasMakeCause (OneRose D.state graphs.old graphs.new)) }
-        ensures calm { OnOk result (NoneRose D.state graphs.old graphs.new) }
+        ensures calm { result ≢ Err MakeFault.DiskFault → NoneRose D.state graphs.old graphs.new }
     {
         let partition = edge.src / self.span;
         self.buffers.add(partition as usize, edge)?;
@@ -142,7 +142,7 @@ impl Maker {
             → OnOk result (HasMade D.state self.old.job (made ++ chunk_with partition (waiting self.old.buffers partition) ∷ []) self.new.placer self.new.index graphs.new) }
         ensures emptied { OnOk result (self.new.buffers ≡ slice_set self.old.buffers partition no_edges) }
         ensures cause { IfErr result (HasMakeCause (OneRose D.state graphs.old graphs.new)) }
-        ensures calm { OnOk result (NoneRose D.state graphs.old graphs.new) }
+        ensures calm { result ≢ Err MakeFault.DiskFault → NoneRose D.state graphs.old graphs.new }
     {
         let edges = self.buffers.edges(partition as usize);
         write_chunk(
@@ -172,7 +172,7 @@ impl Maker {
         ensures made { (edges : List Edge) → IsMaking D.state self.job edges self.buffers self.placer self.index graphs.old
             → IfOk result (λ index. IsFlushed D.state self.job edges index graphs.new) }
         ensures rose { IfErr result (λ fault. fault ≡ MakeFault.DiskFault → OneRose D.state graphs.old graphs.new) }
-        ensures calm { OnOk result (NoneRose D.state graphs.old graphs.new) }
+        ensures calm { result ≢ Err MakeFault.DiskFault → NoneRose D.state graphs.old graphs.new }
     {
         self.write_rest(graphs, beat)?;
         sync_all(graphs, beat)?;
@@ -188,7 +188,7 @@ impl Maker {
         ensures made { (edges : List Edge) → IsMaking D.state self.old.job edges self.old.buffers self.old.placer self.old.index graphs.old
             → OnOk result (HasMade D.state self.old.job (edge_chunks self.old.job edges) self.new.placer self.new.index graphs.new) }
         ensures rose { IfErr result (λ fault. fault ≡ MakeFault.DiskFault → OneRose D.state graphs.old graphs.new) }
-        ensures calm { OnOk result (NoneRose D.state graphs.old graphs.new) }
+        ensures calm { result ≢ Err MakeFault.DiskFault → NoneRose D.state graphs.old graphs.new }
     {
         let parts = self.buffers.len();
         'parts: for partition in 0..parts {

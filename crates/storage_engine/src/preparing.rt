@@ -1,5 +1,5 @@
 //! A store, made of a text.
-ghost use Rattle.std.specs.Prelude.{◌≡◌, ◌⊎◌, ◌+◌, ◌≤◌, ◌^◌, List, length, IfOk, OnOk, IfErr};
+ghost use Rattle.std.specs.Prelude.{◌≡◌, ◌≢◌, ◌⊎◌, ◌+◌, ◌≤◌, ◌^◌, List, length, Err, IfOk, OnOk, IfErr};
 ghost use Rattle.std.specs.List.{All};
 ghost use Rattle.graph_model.specs.declared.edge.Edge.{Edge};
 ghost use Rattle.graph_model.specs.Jobs.{IsWellFormedJob};
@@ -32,9 +32,10 @@ const PIECE: usize = 65_536;
 ///
 /// # Errors
 ///
-/// `BadLine` and `TooLong` where the text is refused, `ReadFault` and `DiskFault` only where the count of the source or
-/// of a device rose, and `Memory`. Then a graph device that was not open is not open, or the fault was in the opening of
-/// the gates. Where a store was made none of these counts rose.
+/// `BadLine` and `TooLong` where the text is refused, `ReadFault` where the count of the source rose, `DiskFault` where
+/// that of a device did, and `Memory`. The count of the source rises in no other answer than `ReadFault`, and those of
+/// the devices in no other than `DiskFault`. After an error a graph device that was not open is not open, or the fault
+/// was in the opening of the gates.
 pub fn prepare<S: Source, D: Disk>(
     alloc: Global,
     job: &Job,
@@ -52,7 +53,7 @@ pub fn prepare<S: Source, D: Disk>(
     requires room { beat.old ≤ 2 ^ 63 + 10 }
     ensures rest { (store.new.lanes ≡ store.old.lanes) × (store.new.spills ≡ store.old.spills) × (meter.new ≡ meter.old) }
     ensures source { S.faults source.old ≤ S.faults source.new }
-    ensures calm { OnOk result (S.faults source.new ≡ S.faults source.old) }
+    ensures calm { result ≢ Err PrepareFault.ReadFault → S.faults source.new ≡ S.faults source.old }
     ensures prepares { Prepares D.state job.now (S.left source.old) (S.left source.new) beat.old beat.new (Rose (S.faults source.old) (S.faults source.new))
         store.old.graphs.items store.new.graphs.items store.old.values.items store.new.values.items result }
 {
@@ -84,7 +85,7 @@ fn prepare_devices<S: Source, D: Disk>(
     requires value_beats { All (λ disk. (D.state disk).beat ≤ beat.old) values.old }
     requires room { beat.old ≤ 2 ^ 63 + 10 }
     ensures source { S.faults source.old ≤ S.faults source.new }
-    ensures calm { OnOk result (S.faults source.new ≡ S.faults source.old) }
+    ensures calm { result ≢ Err PrepareFault.ReadFault → S.faults source.new ≡ S.faults source.old }
     ensures prepares { Prepares D.state job.now (S.left source.old) (S.left source.new) beat.old beat.new (Rose (S.faults source.old) (S.faults source.new)) graphs.old graphs.new values.old values.new result }
 {
     let index = match make_closed(alloc, job, source, graphs, values, beat) {
@@ -120,7 +121,8 @@ fn make_closed<S: Source, D: Disk>(
     ensures source { S.faults source.old ≤ S.faults source.new }
     ensures shut { IfErr result (λ fault. IsOfText fault → All (λ disk. InEveryImage (D.state disk) IsShutGraph) graphs.new) }
     ensures cause { IfErr result (HasPrepareCause job.now (S.left source.old) (OneRose D.state graphs.old graphs.new ⊎ OneRose D.state values.old values.new) (Rose (S.faults source.old) (S.faults source.new))) }
-    ensures calm { OnOk result ((S.faults source.new ≡ S.faults source.old) × NoneRose D.state graphs.old graphs.new × NoneRose D.state values.old values.new) }
+    ensures calm { result ≢ Err PrepareFault.ReadFault → S.faults source.new ≡ S.faults source.old }
+    ensures calm_devices { result ≢ Err PrepareFault.DiskFault → NoneRose D.state graphs.old graphs.new × NoneRose D.state values.old values.new }
 {
     let split = Split::of_job(job);
     let Ok(mut piece) = zero_bytes(alloc, PIECE) else {

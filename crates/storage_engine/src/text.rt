@@ -1,5 +1,5 @@
 //! The edges of a text, given to a maker.
-ghost use Rattle.std.specs.Prelude.{◌≡◌, ◌+◌, ◌<◌, ◌≤◌, [], List, length, OnOk, IfErr};
+ghost use Rattle.std.specs.Prelude.{◌≡◌, ◌≢◌, ◌+◌, ◌<◌, ◌≤◌, [], List, length, Err, OnOk, IfErr};
 ghost use Rattle.std.specs.List.{All};
 ghost use Rattle.graph_model.specs.declared.edge.Edge.{Edge};
 ghost use Rattle.graph_model.specs.EdgeText;
@@ -39,7 +39,8 @@ pub(crate) fn make_chunks<S: Source, D: Disk>(
         × IsMaking D.state maker.old.job edges maker.new.buffers maker.new.placer maker.new.index graphs.new × AreFew maker.old.job edges) }
     ensures source { S.faults source.old ≤ S.faults source.new }
     ensures cause { IfErr result (HasPrepareCause maker.old.job (S.left source.old) (OneRose D.state graphs.old graphs.new) (Rose (S.faults source.old) (S.faults source.new))) }
-    ensures calm { OnOk result ((S.faults source.new ≡ S.faults source.old) × NoneRose D.state graphs.old graphs.new) }
+    ensures calm { result ≢ Err PrepareFault.ReadFault → S.faults source.new ≡ S.faults source.old }
+    ensures calm_devices { result ≢ Err PrepareFault.DiskFault → NoneRose D.state graphs.old graphs.new }
 {
     let job = maker.job;
     let limit = text_limit(job.chunk);

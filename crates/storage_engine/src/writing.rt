@@ -1,5 +1,5 @@
 //! One chunk of edges, on the device where it is placed.
-ghost use Rattle.std.specs.Prelude.{◌≡◌, ◌<◌, ◌≤◌, ◌∷◌, [], ◌++◌, List, length, true, OnOk, IfErr};
+ghost use Rattle.std.specs.Prelude.{◌≡◌, ◌≢◌, ◌<◌, ◌≤◌, ◌∷◌, [], ◌++◌, List, length, true, Err, OnOk, IfErr};
 ghost use Rattle.std.specs.List.{All};
 ghost use Rattle.graph_model.specs.declared.edge.Edge.{Edge};
 ghost use Rattle.graph_model.specs.Jobs.{IsWellFormedJob};
@@ -44,7 +44,7 @@ pub(crate) fn write_chunk<D: Disk>(
         → OnOk result (HasMade D.state job.now (made ++ chunk_with partition edges.now ∷ []) placer.new index.new graphs.new) }
     ensures room { length bytes.new ≡ length bytes.old }
     ensures cause { IfErr result (HasMakeCause (OneRose D.state graphs.old graphs.new)) }
-    ensures calm { OnOk result (NoneRose D.state graphs.old graphs.new) }
+    ensures calm { result ≢ Err MakeFault.DiskFault → NoneRose D.state graphs.old graphs.new }
 {
     let engine = placer.next();
     let at = append_chunk(

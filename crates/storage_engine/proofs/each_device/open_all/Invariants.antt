@@ -1,6 +1,6 @@
 use Rattle.storage_engine.specs.Steps.{Opens, Opened}
-use Rattle.storage_engine.proofs.Every.{DoneBelow}
+use Rattle.storage_engine.proofs.Every.{CalmBelow}
 use Rattle.storage_engine.proofs.each_device.open_all.Given as goal
 
 abbrev pub invariant-loop-e : goal.invariant-loop-e
-invariant-loop-e g l = DoneBelow g.D.Disk.state (Opens l.beat) (λ e old new. Opened old new) l.e l.fn.disks l.disks
+invariant-loop-e g l = CalmBelow g.D.Disk.state (Opens l.beat) (λ e old new. Opened old new) l.e l.fn.disks l.disks

@@ -1,26 +1,23 @@
 use Rattle.std.proofs.Common.{◌<◌, length, arith, rules}
 use Rattle.std.proofs.lemmas.Grind.{common_steps}
 use Rattle.storage_engine.specs.Steps.{Step, IsClosedFront, Synced}
-use Rattle.storage_engine.proofs.Every.{none_done, one_done, each_set, each_same}
+use Rattle.storage_engine.proofs.Every.{none_yet, each_next, next_done, each_same}
 use Rattle.storage_engine.proofs.each_device.sync_all.Goals as goal
 
 pub loop-e-init : goal.loop-e-init
 loop-e-init g c =
     let disks = g.met.D.Disk g.world.𝓛 g.world.𝓜 g.world.𝓡 ((λ s x. x), (λ x. x), (λ x. x), λ x. x) in
-    none_done g.D.Disk.state (Step IsClosedFront c.args.beat.now) (λ e old new. Synced old new) c.args.disks.now
+    none_yet g.D.Disk.state (Step IsClosedFront c.args.beat.now) (λ e old new. Synced old new) c.args.disks.now
     (each_same g.D.Disk.state IsClosedFront c.args.beat.now c.args.disks.now disks.lawful)
 
 pub returns-in_err-sync_closed-clause-steps : goal.returns-in_err-sync_closed-clause-steps
 returns-in_err-sync_closed-clause-steps g c =
-    let disks = g.met.D.Disk g.world.𝓛 g.world.𝓜 g.world.𝓡 ((λ s x. x), (λ x. x), (λ x. x), λ x. x) in
     let within : c.loop-e.e < length c.loop-e.disks = first_of (omega arith, search rules, grind (arith, common_steps)) in
-    each_set g.D.Disk.state IsClosedFront c.args.beat.now c.args.disks.now c.loop-e.disks c.loop-e.e c.index-disks-e.result c.sync_closed.new.disk disks.lawful within c.loop-e.invariant.steps c.sync_closed.ensures.step
+    each_next g.D.Disk.state (Step IsClosedFront c.args.beat.now) (λ e old new. Synced old new) c.loop-e.e c.args.disks.now c.loop-e.disks c.index-disks-e.result c.sync_closed.new.disk within c.loop-e.invariant c.sync_closed.ensures.step
 
 pub loop-e-preserved : goal.loop-e-preserved
 loop-e-preserved g c =
-    let disks = g.met.D.Disk g.world.𝓛 g.world.𝓜 g.world.𝓡 ((λ s x. x), (λ x. x), (λ x. x), λ x. x) in
     let within : c.loop-e.e < length c.loop-e.disks = first_of (omega arith, search rules, grind (arith, common_steps)) in
-    one_done g.D.Disk.state (Step IsClosedFront c.args.beat.now) (λ e old new. Synced old new) c.loop-e.e c.args.disks.now c.loop-e.disks c.index-disks-e.result c.sync_closed.new.disk within c.loop-e.invariant
-    (each_set g.D.Disk.state IsClosedFront c.args.beat.now c.args.disks.now c.loop-e.disks c.loop-e.e c.index-disks-e.result c.sync_closed.new.disk disks.lawful within c.loop-e.invariant.steps c.sync_closed.ensures.step)
+    next_done g.D.Disk.state (Step IsClosedFront c.args.beat.now) (λ e old new. Synced old new) c.loop-e.e c.args.disks.now c.loop-e.disks c.index-disks-e.result c.sync_closed.new.disk within c.loop-e.invariant c.sync_closed.ensures.step
     c.in_ok-sync_closed.ensures.synced
     c.in_ok-sync_closed.ensures.cause.calm

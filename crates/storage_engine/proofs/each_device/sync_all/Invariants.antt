@@ -1,6 +1,6 @@
 use Rattle.storage_engine.specs.Steps.{Step, IsClosedFront, Synced}
-use Rattle.storage_engine.proofs.Every.{DoneBelow}
+use Rattle.storage_engine.proofs.Every.{CalmBelow}
 use Rattle.storage_engine.proofs.each_device.sync_all.Given as goal
 
 abbrev pub invariant-loop-e : goal.invariant-loop-e
-invariant-loop-e g l = DoneBelow g.D.Disk.state (Step IsClosedFront l.beat) (λ e old new. Synced old new) l.e l.fn.disks l.disks
+invariant-loop-e g l = CalmBelow g.D.Disk.state (Step IsClosedFront l.beat) (λ e old new. Synced old new) l.e l.fn.disks l.disks

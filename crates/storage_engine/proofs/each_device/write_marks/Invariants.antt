@@ -1,8 +1,8 @@
 use Rattle.std.proofs.Common.{[], ◌∷◌}
 use Rattle.store_model.specs.Heads
 use Rattle.storage_engine.specs.Steps.{Step, IsClosedFront, Appended}
-use Rattle.storage_engine.proofs.Every.{DoneBelow}
+use Rattle.storage_engine.proofs.Every.{CalmBelow}
 use Rattle.storage_engine.proofs.each_device.write_marks.Given as goal
 
 abbrev pub invariant-loop-e : goal.invariant-loop-e
-invariant-loop-e g l = DoneBelow g.D.Disk.state (Step IsClosedFront l.beat) (λ e old new. Appended (Heads.MARK ∷ []) old new) l.e l.fn.disks l.disks
+invariant-loop-e g l = CalmBelow g.D.Disk.state (Step IsClosedFront l.beat) (λ e old new. Appended (Heads.MARK ∷ []) old new) l.e l.fn.disks l.disks

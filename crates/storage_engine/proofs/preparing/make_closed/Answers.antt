@@ -9,7 +9,7 @@ use Rattle.storage_engine.specs.Making.{AreFew, HasRoomFor, IsMaking, IsFlushed}
 use Rattle.storage_engine.specs.Preparing.{HasReadAll, HasPrepareCause}
 use Rattle.storage_engine.specs.Steps.{IsClosedFront}
 use Rattle.storage_engine.proofs.Every.{each_then, one_rose_later}
-use Rattle.storage_engine.proofs.Texts.{stopped_by, not_of_text}
+use Rattle.storage_engine.proofs.Texts.{stopped_by, stopped_calm, not_of_text}
 use Rattle.storage_engine.proofs.TwoBeats.{cause_weaker}
 use Rattle.storage_engine.proofs.Ends.{shut_then, closed_then}
 use Rattle.storage_engine.proofs.preparing.make_closed.Goals as goal
@@ -82,7 +82,23 @@ flush-requires-clause-making g c = λ _ _.
     (made.0, made.2, subst (AreFew c.in-Ok-new.maker.job) (sym (append-nil made.0)) made.3)
 
 pub returns-in-Ok-flush-clause-calm : goal.returns-in-Ok-flush-clause-calm
-returns-in-Ok-flush-clause-calm g c =
+returns-in-Ok-flush-clause-calm g c = λ _. c.in_default-make_chunks.ensures.calm (λ is. absurd cc)
+
+pub returns-clause-calm : goal.returns-clause-calm
+returns-clause-calm g c = λ _. c.in_default-make_chunks.ensures.calm (λ is. absurd cc)
+
+pub returns-in-Err-make_chunks-clause-calm_devices : goal.returns-in-Err-make_chunks-clause-calm_devices
+returns-in-Err-make_chunks-clause-calm_devices g c = λ no_fault.
     let begun = c.in_default-begin_devices.ensures.calm in
-    let given = c.in_default-make_chunks.ensures.calm in
-    (given.0, c.in-Ok-flush.ensures.calm ∙ given.1 ∙ begun.0, begun.1)
+    (c.in-Err-make_chunks.ensures.calm_devices (λ is. no_fault cc) ∙ begun.0, begun.1)
+
+pub returns-in-Ok-flush-clause-calm_devices : goal.returns-in-Ok-flush-clause-calm_devices
+returns-in-Ok-flush-clause-calm_devices g c = λ _.
+    let begun = c.in_default-begin_devices.ensures.calm in
+    (c.in-Ok-flush.ensures.calm (λ is. absurd cc) ∙ c.in_default-make_chunks.ensures.calm_devices (λ is. absurd cc) ∙ begun.0, begun.1)
+
+pub returns-clause-calm_devices : goal.returns-clause-calm_devices
+returns-clause-calm_devices g c =
+    let begun = c.in_default-begin_devices.ensures.calm in
+    rw c.stopped.ensures
+    (stopped_calm c.in-Err-flush.fault (λ no_fault. (c.in-Err-flush.ensures.calm no_fault ∙ c.in_default-make_chunks.ensures.calm_devices (λ is. absurd cc) ∙ begun.0, begun.1)))

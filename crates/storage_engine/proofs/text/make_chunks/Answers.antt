@@ -5,7 +5,7 @@ use Rattle.ports.specs.Faults.{Rose}
 use Rattle.ports.specs.Devices.{OneRose}
 use Rattle.storage_engine.specs.Steps.{IsClosedFront}
 use Rattle.storage_engine.proofs.Every.{each_same, each_then, one_rose_later}
-use Rattle.storage_engine.proofs.Texts.{so_far, taken_none, taken_more, taken_all, piece_refused, end_refused, stopped_by, given_further, sources_given, room_for_piece, room_for_end}
+use Rattle.storage_engine.proofs.Texts.{so_far, taken_none, taken_more, taken_all, piece_refused, end_refused, stopped_by, stopped_calm, given_further, sources_given, room_for_piece, room_for_end}
 use Rattle.storage_engine.proofs.text.make_chunks.Goals as goal
 
 pub pieces-init : goal.pieces-init
@@ -63,7 +63,7 @@ pieces-preserved g c =
     let feeds = c.in_default-feed.ensures.read job.vertices both limit front.fed front.has_read in
     record {
       later = omega (arith, c.in-Ok.ensures.cause.later, c.pieces.invariant.later);
-      calm = (c.in-Ok.ensures.cause.calm ∙ c.pieces.invariant.calm.0, c.in_default-add_all.ensures.calm ∙ c.pieces.invariant.calm.1);
+      calm = (c.in-Ok.ensures.cause.calm ∙ c.pieces.invariant.calm.0, c.in_default-add_all.ensures.calm (λ is. absurd cc) ∙ c.pieces.invariant.calm.1);
       job = c.add_all.ensures.job ∙ c.pieces.invariant.job;
       steps = each_then g.D.Disk.state IsClosedFront c.args.beat.now c.args.graphs.now c.pieces.graphs c.add_all.new.graphs disks.lawful c.pieces.invariant.steps c.add_all.ensures.steps;
       front = taken_more state job _ _ _ _ c.feed.new.self _ c.in-Ok.count c.read.new.into _ c.clear.new.self.items c.feed.new.into.items c.pieces.maker.buffers c.add_all.new.self.buffers c.pieces.maker.placer c.add_all.new.self.placer c.pieces.maker.index c.add_all.new.self.index c.pieces.graphs c.add_all.new.graphs
@@ -142,5 +142,16 @@ add_all-requires-2-clause-making g c = λ _ _.
     room_for_end state job c.pieces.maker.job _ _ _ _ c.clear-2.new.self.items c.finish.new.into.items c.deref-2.result.now c.pieces.maker.buffers c.pieces.maker.placer c.pieces.maker.index c.pieces.graphs
     c.pieces.invariant.job c.clear-2.ensures.items c.deref-2.ensures.value front (c.in_default-finish.ensures.read job.vertices both limit front.fed front.has_read)
 
+pub returns-in-Err-add_all-clause-calm_devices : goal.returns-in-Err-add_all-clause-calm_devices
+returns-in-Err-add_all-clause-calm_devices g c =
+    rw c.stopped.ensures (stopped_calm c.in-Err-add_all.fault (λ no_fault. c.in-Err-add_all.ensures.calm no_fault ∙ c.pieces.invariant.calm.1))
+
+pub returns-in-Err-add_all-2-clause-calm_devices : goal.returns-in-Err-add_all-2-clause-calm_devices
+returns-in-Err-add_all-2-clause-calm_devices g c =
+    rw c.stopped-in-Err-add_all-2.ensures (stopped_calm c.in-Err-add_all-2.fault (λ no_fault. c.in-Err-add_all-2.ensures.calm no_fault ∙ c.pieces.invariant.calm.1))
+
 pub returns-clause-calm : goal.returns-clause-calm
-returns-clause-calm g c = (c.in-Ok.ensures.cause.calm ∙ c.pieces.invariant.calm.0, c.in_default-add_all-2.ensures.calm ∙ c.pieces.invariant.calm.1)
+returns-clause-calm g c = λ _. c.in-Ok.ensures.cause.calm ∙ c.pieces.invariant.calm.0
+
+pub returns-clause-calm_devices : goal.returns-clause-calm_devices
+returns-clause-calm_devices g c = λ _. c.in_default-add_all-2.ensures.calm (λ is. absurd cc) ∙ c.pieces.invariant.calm.1

@@ -1,8 +1,9 @@
 use Rattle.std.proofs.Common.{◌<◌, ◌≤◌, length, get_or, refl, arith, rules}
 use Rattle.std.proofs.lemmas.Grind.{common_steps}
+use Rattle.ports.proofs.Rising.{same_here}
 use Rattle.storage_engine.specs.Making.{chunk_with}
 use Rattle.storage_engine.specs.Steps.{IsClosedFront}
-use Rattle.storage_engine.proofs.Every.{each_same, each_set, none_rose_here}
+use Rattle.storage_engine.proofs.Every.{each_same, each_set}
 use Rattle.storage_engine.proofs.OneChunk.{append_step, made_more}
 use Rattle.storage_engine.proofs.writing.write_chunk.Goals as goal
 
@@ -61,6 +62,10 @@ returns-clause-made g c = λ made has.
     made_more state job made (chunk_with c.args.partition c.args.edges.now) c.args.placer.now c.next-engine.new.self c.args.index.now c.add.new.self c.args.graphs.now c.next-engine.result c.in_ok-at.at c.args.beat.now mid c.append_chunk.new.disk
     disks.lawful has room within few_e c.requires.partition few next.0 next.1 c.in_ok-at.ensures.place c.in_ok-add.ensures.ok step c.in_ok-at.ensures.appended c.in_ok-at.ensures.grown
 
+pub returns-in_err-add-clause-calm : goal.returns-in_err-add-clause-calm
+returns-in_err-add-clause-calm g c = λ _.
+    same_here (λ d. (g.D.Disk.state d).faults) c.args.graphs.now c.args.graphs.now c.next-engine.result c.index-graphs-engine.result c.append_chunk.new.disk refl c.in_ok-at.ensures.writes.cause.calm
+
 pub returns-clause-calm : goal.returns-clause-calm
-returns-clause-calm g c =
-    none_rose_here g.D.Disk.state c.args.graphs.now c.args.graphs.now c.next-engine.result c.index-graphs-engine.result c.append_chunk.new.disk refl c.in_ok-at.ensures.writes.cause.calm
+returns-clause-calm g c = λ _.
+    same_here (λ d. (g.D.Disk.state d).faults) c.args.graphs.now c.args.graphs.now c.next-engine.result c.index-graphs-engine.result c.append_chunk.new.disk refl c.in_ok-at.ensures.writes.cause.calm

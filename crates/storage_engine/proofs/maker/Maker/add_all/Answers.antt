@@ -23,13 +23,16 @@ returns-in-Err-clause-rose g c = λ is.
     one_rose_later g.D.Disk.state IsClosedFront c.args.beat.now c.args.graphs.now c.loop-k.graphs c.add.new.graphs c.loop-k.invariant.steps
     (rose_cause (OneRose g.D.Disk.state c.loop-k.graphs c.add.new.graphs) c.in-Err.fault c.in-Err.ensures.cause is)
 
+pub returns-in-Err-clause-calm : goal.returns-in-Err-clause-calm
+returns-in-Err-clause-calm g c = λ no_fault. c.in-Err.ensures.calm no_fault ∙ c.loop-k.invariant.calm
+
 pub loop-k-preserved : goal.loop-k-preserved
 loop-k-preserved g c =
     let disks = g.met.D.Disk g.world.𝓛 g.world.𝓜 g.world.𝓡 ((λ s x. x), (λ x. x), (λ x. x), λ x. x) in
     let within : c.loop-k.k < length c.args.edges.now = first_of (omega arith, search rules, grind (arith, common_steps)) in
     record {
       steps = each_then g.D.Disk.state IsClosedFront c.args.beat.now c.args.graphs.now c.loop-k.graphs c.add.new.graphs disks.lawful c.loop-k.invariant.steps c.add.ensures.steps;
-      calm = c.in_default.ensures.calm ∙ c.loop-k.invariant.calm;
+      calm = c.in_default.ensures.calm (λ is. absurd cc) ∙ c.loop-k.invariant.calm;
       job = c.add.ensures.job ∙ c.loop-k.invariant.job;
       making = λ before making.
           making_further g.D.Disk.state c.args.self.now.job c.loop-k.self.job before c.args.edges.now c.loop-k.k _ c.loop-k.self.buffers c.add.new.self.buffers c.loop-k.self.placer c.add.new.self.placer c.loop-k.self.index c.add.new.self.index c.loop-k.graphs c.add.new.graphs

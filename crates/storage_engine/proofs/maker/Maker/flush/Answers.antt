@@ -9,4 +9,4 @@ returns-clause-made g c = λ edges making.
     (c.in_ok-write_rest.ensures.made edges making) c.sync_all.ensures.steps c.in_ok-sync_all.ensures.done
 
 pub returns-clause-calm : goal.returns-clause-calm
-returns-clause-calm g c = c.in_ok-sync_all.ensures.calm ∙ c.in_ok-write_rest.ensures.calm
+returns-clause-calm g c = λ _. c.in_ok-sync_all.ensures.calm ∙ c.in_ok-write_rest.ensures.calm (λ is. absurd cc)

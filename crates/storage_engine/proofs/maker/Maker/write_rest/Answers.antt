@@ -32,12 +32,15 @@ returns-in-Err-clause-rose g c = λ is.
     one_rose_later g.D.Disk.state IsClosedFront c.args.beat.now c.args.graphs.now c.parts.graphs c.write.new.graphs c.parts.invariant.steps
     (rose_cause (OneRose g.D.Disk.state c.parts.graphs c.write.new.graphs) c.in-Err.fault c.in-Err.ensures.cause is)
 
+pub returns-in-Err-clause-calm : goal.returns-in-Err-clause-calm
+returns-in-Err-clause-calm g c = λ no_fault. c.in-Err.ensures.calm no_fault ∙ c.parts.invariant.calm
+
 pub parts-preserved : goal.parts-preserved
 parts-preserved g c =
     let disks = g.met.D.Disk g.world.𝓛 g.world.𝓜 g.world.𝓡 ((λ s x. x), (λ x. x), (λ x. x), λ x. x) in
     record {
       steps = each_then g.D.Disk.state IsClosedFront c.args.beat.now c.args.graphs.now c.parts.graphs c.write.new.graphs disks.lawful c.parts.invariant.steps c.write.ensures.steps;
-      calm = c.in_default.ensures.calm ∙ c.parts.invariant.calm;
+      calm = c.in_default.ensures.calm (λ is. absurd cc) ∙ c.parts.invariant.calm;
       job = c.write.ensures.job ∙ c.parts.invariant.job;
       written = λ edges making.
           let job = c.args.self.now.job in

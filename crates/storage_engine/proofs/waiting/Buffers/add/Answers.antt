@@ -4,7 +4,7 @@ use Rattle.std.specs.Global.{Global}
 use Rattle.std.proofs.lemmas.List.{length-map}
 use Rattle.graph_model.specs.declared.edge.Edge.{Edge}
 use Rattle.storage_engine.specs.Waiting.{with_edge}
-use Rattle.storage_engine.proofs.Lists.{same_lists, more_lists}
+use Rattle.graph_model.proofs.VecLists.{same_lists, more_lists}
 use Rattle.storage_engine.proofs.waiting.Buffers.add.Goals as goal
 
 pub returns-in_err-push-clause-err : goal.returns-in_err-push-clause-err

@@ -1,6 +1,6 @@
 use Rattle.std.proofs.Common.{◌∙◌, set, ap}
 use Rattle.storage_engine.specs.Waiting.{no_edges}
-use Rattle.storage_engine.proofs.Lists.{set_list}
+use Rattle.graph_model.proofs.VecLists.{set_list}
 use Rattle.storage_engine.proofs.waiting.Buffers.empty.Goals as goal
 
 pub returns : goal.returns
