@@ -1,46 +1,50 @@
 -- How the work of all desks ends.
-use Rattle.std.proofs.Common.{◌≡◌, ◌⊎◌, inl, inr, ℕ, zero, suc, ◌<◌, ◌≤◌, List, [], ◌∷◌, length, map, refl, sym, ◌∙◌, ap, subst, arith, slice_index, slice_index_or}
+use Rattle.std.proofs.Common.{◌≡◌, ◌≢◌, ◌⊎◌, inl, inr, ℕ, zero, suc, ◌<◌, ◌≤◌, List, [], ◌∷◌, length, map, refl, sym, ◌∙◌, ap, subst, arith, slice_index, slice_index_or}
 use Rattle.std.specs.List.{All}
 use Rattle.std.proofs.lemmas.List.{get_or-map, length-map}
 use Rattle.partitioner.specs.declared.split.Split.{Split}
 use Rattle.ports.specs.Disk.{DiskState}
 use Rattle.ports.specs.Faults.{Rose}
+use Rattle.ports.specs.Devices.{OneCountRose, SameCounts, OneRose}
 use Rattle.store_model.specs.Slots.{device_size}
 use Rattle.store_reader.specs.Reading.{own_in}
 use Rattle.store_reader.specs.declared.store.Outcome.{Outcome}
-use Rattle.store_reader.specs.declared.store.Outcome.TheVariants.{Done, DiskFault}
+use Rattle.store_reader.specs.declared.store.Outcome.TheVariants.{Done, DiskFault, Damaged, Memory}
 use Rattle.checkpoint.specs.Room.{IsRoomOf}
 use Rattle.checkpoint.specs.declared.apply.ApplyDesk.{ApplyDesk}
 use Rattle.worker_outcomes.specs.Lowest.{lowest_outcome}
-use Rattle.worker_outcomes.proofs.Lowest.{all_done}
+use Rattle.worker_outcomes.proofs.Lowest.{all_done, is_of, own_outcome}
 use Rattle.list_moves.proofs.Desks.{some_of, same_by}
-use Rattle.apply_round.specs.Crew.{AreDealt, OneRose, EndsByCauses, capped}
+use Rattle.apply_round.specs.Crew.{AreDealt, EndsByCauses, capped}
 use Rattle.apply_round.specs.Applying.{RoundTerms, MayApply, Applies, Stores, HasApplied, AppliesToEach, StoresOnEach}
 
-stop_done : (outcome : Outcome) (rest : List Outcome) → outcome ≡ Done → lowest_outcome (outcome ∷ rest) ≡ lowest_outcome rest
-stop_done outcome rest is = ap (λ (o : Outcome). lowest_outcome (o ∷ rest)) is
+-- the outcome of all is done, or it is not
+done_or : {P : Type 0} (outcome : Outcome) → (outcome ≢ Done → P) → (outcome ≡ Done) ⊎ P
+done_or Done other = inl refl
+done_or DiskFault other = inr (other (λ is. cc))
+done_or (Damaged part engine place) other = inr (other (λ is. cc))
+done_or Memory other = inr (other (λ is. cc))
 
-stop_fault : (outcome : Outcome) (rest : List Outcome) → outcome ≡ DiskFault → lowest_outcome (outcome ∷ rest) ≡ DiskFault
-stop_fault outcome rest is = ap (λ (o : Outcome). lowest_outcome (o ∷ rest)) is
+-- What was dealt to desks, and came back from them.
+module _ {X Y : Type 0} (f : X → Y) (count : Y → ℕ) (olds news : List X) (same : length news ≡ length olds) where
+  rose_at : (w : ℕ) (x : X) → w < length olds → Rose (count (f (slice_index_or olds w x))) (count (f (slice_index_or news w x))) → OneCountRose count (map f olds) (map f news)
+  rose_at w x below rose = (w, omega (arith, length-map olds f), λ y.
+      subst (λ (z : Y). Rose (count z) (count (slice_index_or (map f news) w y))) (sym (get_or-map f olds w x y below))
+      (subst (λ (z : Y). Rose (count (f (slice_index_or olds w x))) (count z)) (sym (get_or-map f news w x y (omega arith))) rose))
 
-rose_here : (before now : List ℕ) (b n : ℕ) → Rose b n → OneRose (b ∷ before) (n ∷ now)
-rose_here before now b n rose = record { place = 0; within = omega arith; rose = rose }
+  later_at : ((w : ℕ) (x : X) → w < length olds → count (f (slice_index_or olds w x)) ≤ count (f (slice_index_or news w x)))
+      → (w : ℕ) (y : Y) → w < length (map f olds) → count (slice_index_or (map f olds) w y) ≤ count (slice_index_or (map f news) w y)
+  later_at each w y below =
+      let within : w < length olds = omega (arith, length-map olds f) in
+      let x : X = some_of olds w within in
+      omega (arith, ap count (get_or-map f olds w x y within), ap count (get_or-map f news w x y (omega arith)), each w x within)
 
-rose_later : (before now : List ℕ) (b n : ℕ) → OneRose before now → OneRose (b ∷ before) (n ∷ now)
-rose_later before now b n one = record { place = suc one.place; within = let below = one.within in omega arith; rose = one.rose }
-
-twice : {A B C : Type 0} (f : B → C) (g : A → B) (xs : List A) → map f (map g xs) ≡ map (λ x. f (g x)) xs
-twice f g [] = refl
-twice f g (x ∷ xs) = ap (λ ys. f (g x) ∷ ys) (twice f g xs)
-
--- numbers of items that never fall
-never_fall : {A : Type 0} (f : A → ℕ) (olds news : List A) → length news ≡ length olds → ((w : ℕ) (d : A) → w < length olds → f (slice_index_or olds w d) ≤ f (slice_index_or news w d)) →
-    (e : ℕ) → slice_index (map f olds) e ≤ slice_index (map f news) e
-never_fall f [] [] same each e = omega arith
-never_fall f [] (n ∷ news) same each e = absurd (omega arith)
-never_fall f (o ∷ olds) [] same each e = absurd (omega arith)
-never_fall f (o ∷ olds) (n ∷ news) same each zero = each 0 o (omega arith)
-never_fall f (o ∷ olds) (n ∷ news) same each (suc e) = never_fall f olds news (omega arith) (λ w d below. each (suc w) d (omega (arith, below))) e
+  same_at : ((w : ℕ) (x : X) → w < length olds → count (f (slice_index_or news w x)) ≡ count (f (slice_index_or olds w x))) → SameCounts count (map f olds) (map f news)
+  same_at each =
+      same_by count (map f olds) (map f news) (length-map news f ∙ same ∙ sym (length-map olds f)) (λ w y below.
+      let within : w < length olds = omega (arith, length-map olds f) in
+      let x : X = some_of olds w within in
+      omega (arith, ap count (get_or-map f olds w x y within), ap count (get_or-map f news w x y (omega arith)), each w x within))
 
 module _ {D M : Type 0} (state : D → DiskState) (faults : M → ℕ) where
   -- the devices that desks have may be worked on
@@ -62,74 +66,63 @@ module _ {D M : Type 0} (state : D → DiskState) (faults : M → ℕ) where
     abbrev pub EachApplied : (olds news : List (ApplyDesk D M)) → Type 0
     EachApplied olds news = (w : ℕ) (desk : ApplyDesk D M) → w < length olds → HasApplied state faults t (slice_index_or olds w desk) (slice_index_or news w desk)
 
-    abbrev pub disk_faults : List (ApplyDesk D M) → List ℕ
-    disk_faults desks = map (λ (d : ApplyDesk D M). (state d.disk).faults) desks
+    abbrev disks_of : List (ApplyDesk D M) → List D
+    disks_of desks = map (λ (d : ApplyDesk D M). d.disk) desks
 
-    abbrev pub meter_faults : List (ApplyDesk D M) → List ℕ
-    meter_faults desks = map (λ (d : ApplyDesk D M). faults d.meter) desks
+    abbrev meters_of : List (ApplyDesk D M) → List M
+    meters_of desks = map (λ (d : ApplyDesk D M). d.meter) desks
 
     abbrev pub outcomes : List (ApplyDesk D M) → List Outcome
     outcomes desks = map (λ (d : ApplyDesk D M). d.outcome) desks
 
-    Ending : (outcome : Outcome) (olds news : List (ApplyDesk D M)) → Type 0
-    Ending outcome olds news = (outcome ≡ Done) ⊎ ((outcome ≡ DiskFault) × (OneRose (disk_faults olds) (disk_faults news) ⊎ OneRose (meter_faults olds) (meter_faults news)))
+    abbrev count_of : D → ℕ
+    count_of x = (state x).faults
 
-    -- one desk more, before the others
-    one_more : (o n : ApplyDesk D M) (olds news : List (ApplyDesk D M)) → HasApplied state faults t o n → Ending (lowest_outcome (outcomes news)) olds news → Ending (lowest_outcome (outcomes (n ∷ news))) (o ∷ olds) (n ∷ news)
-    unfolding Ending
-    one_more o n olds news has rest =
-        elim has.cause.ends as (λ _. Ending (lowest_outcome (outcomes (n ∷ news))) (o ∷ olds) (n ∷ news)) [
-          | inl done ↦ elim rest as (λ _. Ending (lowest_outcome (outcomes (n ∷ news))) (o ∷ olds) (n ∷ news)) [
-            | inl all ↦ inl (stop_done n.outcome (outcomes news) done ∙ all)
-            | inr fault ↦ inr (
-              stop_done n.outcome (outcomes news) done ∙ fault.0,
-              elim fault.1 [
-                | inl disk ↦ inl (rose_later (disk_faults olds) (disk_faults news) (state o.disk).faults (state n.disk).faults disk)
-                | inr meter ↦ inr (rose_later (meter_faults olds) (meter_faults news) (faults o.meter) (faults n.meter) meter)
+    module _ (olds news : List (ApplyDesk D M)) (same : length news ≡ length olds) (each : EachApplied olds news) where
+      -- the desk whose outcome counts tells why
+      fault_of : lowest_outcome (outcomes news) ≢ Done → (lowest_outcome (outcomes news) ≡ DiskFault) × (OneCountRose faults (meters_of olds) (meters_of news) ⊎ OneRose state (disks_of olds) (disks_of news))
+      fault_of not =
+          let lowest = is_of (outcomes news) not in
+          let here : lowest.0 < length news = omega (arith, lowest.1.within, length-map news (λ (d : ApplyDesk D M). d.outcome)) in
+          let below : lowest.0 < length olds = omega arith in
+          let desk : ApplyDesk D M = some_of olds lowest.0 below in
+          let own : (slice_index_or news lowest.0 desk).outcome ≡ lowest_outcome (outcomes news) = own_outcome (λ (d : ApplyDesk D M). d.outcome) news lowest.0 desk lowest.1 in
+          elim (each lowest.0 desk below).cause.ends as (λ _. (lowest_outcome (outcomes news) ≡ DiskFault) × (OneCountRose faults (meters_of olds) (meters_of news) ⊎ OneRose state (disks_of olds) (disks_of news))) [
+            | inl done ↦ absurd (not (sym own ∙ done))
+            | inr fault ↦ (
+              sym own ∙ fault.0,
+              elim fault.1 as (λ _. OneCountRose faults (meters_of olds) (meters_of news) ⊎ OneRose state (disks_of olds) (disks_of news)) [
+                | inl disk ↦ inr (rose_at (λ (d : ApplyDesk D M). d.disk) count_of olds news same lowest.0 desk below disk)
+                | inr meter ↦ inl (rose_at (λ (d : ApplyDesk D M). d.meter) faults olds news same lowest.0 desk below meter)
               ],
             )
           ]
-          | inr fault ↦ inr (
-            stop_fault n.outcome (outcomes news) fault.0,
-            elim fault.1 [
-              | inl disk ↦ inl (rose_here (disk_faults olds) (disk_faults news) (state o.disk).faults (state n.disk).faults disk)
-              | inr meter ↦ inr (rose_here (meter_faults olds) (meter_faults news) (faults o.meter) (faults n.meter) meter)
-            ],
-          )
-        ]
 
-    ends : (olds news : List (ApplyDesk D M)) → length news ≡ length olds → EachApplied olds news → Ending (lowest_outcome (outcomes news)) olds news
-    unfolding Ending
-    ends [] [] same each = inl refl
-    ends [] (n ∷ news) same each = absurd (omega arith)
-    ends (o ∷ olds) [] same each = absurd (omega arith)
-    ends (o ∷ olds) (n ∷ news) same each = one_more o n olds news (each 0 o (omega arith)) (ends olds news (omega arith) (λ w desk below. each (suc w) desk (omega (arith, below))))
+      ends_by_causes : EndsByCauses state faults (lowest_outcome (outcomes news)) (disks_of olds) (disks_of news) (meters_of olds) (meters_of news)
+      ends_by_causes = record {
+        ends = done_or (lowest_outcome (outcomes news)) fault_of;
+        disks = record {
+          many = length-map news (λ (d : ApplyDesk D M). d.disk) ∙ same ∙ sym (length-map olds (λ (d : ApplyDesk D M). d.disk));
+          each = later_at (λ (d : ApplyDesk D M). d.disk) count_of olds news same (λ w desk below. (each w desk below).cause.disk);
+        };
+        meters = record {
+          many = length-map news (λ (d : ApplyDesk D M). d.meter) ∙ same ∙ sym (length-map olds (λ (d : ApplyDesk D M). d.meter));
+          later = later_at (λ (d : ApplyDesk D M). d.meter) faults olds news same (λ w desk below. (each w desk below).cause.meter);
+        };
+        calm = λ done.
+            let at_each : (w : ℕ) (desk : ApplyDesk D M) → w < length olds → (slice_index_or news w desk).outcome ≡ Done =
+            λ w desk below.
+            let here : w < length news = omega (arith, same, below) in
+            sym (get_or-map (λ (d : ApplyDesk D M). d.outcome) news w desk Done here) ∙ all_done (outcomes news) done w Done (omega (arith, here, length-map news (λ (d : ApplyDesk D M). d.outcome))) in (
+              same_at (λ (d : ApplyDesk D M). d.meter) faults olds news same (λ w desk below. ((each w desk below).cause.calm (at_each w desk below)).1),
+              same_at (λ (d : ApplyDesk D M). d.disk) count_of olds news same (λ w desk below. ((each w desk below).cause.calm (at_each w desk below)).0),
+            );
+      }
 
-    pub ends_by_causes : (olds news : List (ApplyDesk D M)) → length news ≡ length olds → EachApplied olds news → EndsByCauses (lowest_outcome (outcomes news)) (disk_faults olds) (disk_faults news) (meter_faults olds) (meter_faults news)
-    unfolding Ending
-    ends_by_causes olds news same each = record {
-      ends = ends olds news same each;
-      disks = never_fall (λ (d : ApplyDesk D M). (state d.disk).faults) olds news same (λ w desk below. (each w desk below).cause.disk);
-      meters = never_fall (λ (d : ApplyDesk D M). faults d.meter) olds news same (λ w desk below. (each w desk below).cause.meter);
-      calm = λ done.
-          let at_each : (w : ℕ) (desk : ApplyDesk D M) → w < length olds → (slice_index_or news w desk).outcome ≡ Done =
-          λ w desk below.
-          let here : w < length news = omega (arith, same, below) in
-          sym (get_or-map (λ (d : ApplyDesk D M). d.outcome) news w desk Done here) ∙ all_done (outcomes news) done w Done (omega (arith, here, length-map news (λ (d : ApplyDesk D M). d.outcome))) in (
-            same_by (λ (d : ApplyDesk D M). (state d.disk).faults) olds news same (λ w desk below. ((each w desk below).cause.calm (at_each w desk below)).0),
-            same_by (λ (d : ApplyDesk D M). faults d.meter) olds news same (λ w desk below. ((each w desk below).cause.calm (at_each w desk below)).1),
-          );
-    }
-
-    pub causes_at : (olds news : List (ApplyDesk D M)) → length news ≡ length olds → EachApplied olds news → {values values' : List D} {meters meters' : List M} {outcome : Outcome} →
-        map (λ (d : ApplyDesk D M). d.disk) olds ≡ values → map (λ (d : ApplyDesk D M). d.meter) olds ≡ meters →
-        values' ≡ map (λ (d : ApplyDesk D M). d.disk) news → meters' ≡ map (λ (d : ApplyDesk D M). d.meter) news → outcome ≡ lowest_outcome (outcomes news) →
-        EndsByCauses outcome (map (λ (d : D). (state d).faults) values) (map (λ (d : D). (state d).faults) values') (map faults meters) (map faults meters')
-    causes_at olds news same each {values} {values'} {meters} {meters'} {outcome} values_are meters_are values_now meters_now outcome_is =
-        let disks : (desks : List (ApplyDesk D M)) → map (λ (d : D). (state d).faults) (map (λ (d : ApplyDesk D M). d.disk) desks) ≡ disk_faults desks = λ desks. twice (λ (d : D). (state d).faults) (λ (d : ApplyDesk D M). d.disk) desks in
-        let reads : (desks : List (ApplyDesk D M)) → map faults (map (λ (d : ApplyDesk D M). d.meter) desks) ≡ meter_faults desks = λ desks. twice faults (λ (d : ApplyDesk D M). d.meter) desks in
-        rw (sym values_are, sym meters_are, values_now, meters_now, outcome_is, disks olds, disks news, reads olds, reads news)
-        (ends_by_causes olds news same each)
+      pub causes_at : {values values' : List D} {meters meters' : List M} {outcome : Outcome} → disks_of olds ≡ values → meters_of olds ≡ meters →
+          values' ≡ disks_of news → meters' ≡ meters_of news → outcome ≡ lowest_outcome (outcomes news) → EndsByCauses state faults outcome values values' meters meters'
+      causes_at {values} {values'} {meters} {meters'} {outcome} values_are meters_are values_now meters_now outcome_is =
+          rw (sym values_are, sym meters_are, values_now, meters_now, outcome_is) ends_by_causes
 
     pub rooms_after : (olds news : List (ApplyDesk D M)) → length news ≡ length olds → EachApplied olds news → All (IsRoomOf t.split) (map (λ (d : ApplyDesk D M). d.room) news)
     rooms_after olds news same each k room below =

@@ -1,8 +1,9 @@
 -- The desks of apply, the crew that they are made of, and how apply ends over all engines.
-use Rattle.std.specs.Prelude.{◌≡◌, ◌⊎◌, ℕ, ◌-◌, ◌^◌, ◌<◌, ◌≤◌, min, List, length, map, sum, slice_index, slice_index_or, vec_len, vec_capacity}
+use Rattle.std.specs.Prelude.{◌≡◌, ◌⊎◌, ℕ, ◌-◌, ◌^◌, ◌<◌, ◌≤◌, min, List, length, map, sum, slice_index_or, vec_len, vec_capacity}
 use Rattle.std.specs.List.{All}
 use Rattle.partitioner.specs.declared.split.Split.{Split}
-use Rattle.ports.specs.Faults.{Rose}
+use Rattle.ports.specs.Disk.{DiskState}
+use Rattle.ports.specs.Devices.{OneCountRose, SameCounts, MetersGoOn, Each, OneRose, NoneRose}
 use Rattle.store_reader.specs.declared.store.Outcome.{Outcome}
 use Rattle.store_reader.specs.declared.store.Outcome.TheVariants.{Done, DiskFault}
 use Rattle.checkpoint.specs.Room.{IsRoomOf}
@@ -27,15 +28,10 @@ pub record AreDealt {D M : Type 0} (split : Split) (values : List D) (meters : L
 abbrev pub capped : List ℕ → ℕ
 capped counts = min (sum counts) (2 ^ 64 - 1)
 
--- one of some counts is higher now, or stands at its last value
-pub record OneRose (before now : List ℕ) : Type 0 where
-  pub place : ℕ
-  pub within : place < length before
-  pub rose : Rose (slice_index before place) (slice_index now place)
-
--- All is done and no count rose, or that of a disk or of a meter did. Counts never fall.
-pub record EndsByCauses (outcome : Outcome) (disks_before disks_now meters_before meters_now : List ℕ) : Type 0 where
-  pub ends : (outcome ≡ Done) ⊎ ((outcome ≡ DiskFault) × (OneRose disks_before disks_now ⊎ OneRose meters_before meters_now))
-  pub disks : (e : ℕ) → slice_index disks_before e ≤ slice_index disks_now e
-  pub meters : (e : ℕ) → slice_index meters_before e ≤ slice_index meters_now e
-  pub calm : outcome ≡ Done → (disks_now ≡ disks_before) × (meters_now ≡ meters_before)
+-- All is done and no count rose, or that of a meter or of a device did. Counts never fall.
+module _ {D M : Type 0} (state : D → DiskState) (faults : M → ℕ) where
+  pub record EndsByCauses (outcome : Outcome) (olds news : List D) (meters meters' : List M) : Type 0 where
+    pub ends : (outcome ≡ Done) ⊎ ((outcome ≡ DiskFault) × (OneCountRose faults meters meters' ⊎ OneRose state olds news))
+    pub disks : Each state (λ old new. old.faults ≤ new.faults) olds news
+    pub meters : MetersGoOn faults meters meters'
+    pub calm : outcome ≡ Done → SameCounts faults meters meters' × NoneRose state olds news

@@ -47,7 +47,7 @@ pub fn apply_all<R: Threads + Sync, P: VertexProgram, D: Disk>(
     ensures crew { IsCrewOf context.now.split.now crew.new }
     ensures many { (vec_len values.new ≡ context.now.split.now.engines) × (vec_len meters.new ≡ context.now.split.now.engines) }
     ensures room { (vec_capacity values.old ≤ vec_capacity values.new) × (vec_capacity meters.old ≤ vec_capacity meters.new) }
-    ensures cause { EndsByCauses result.outcome (map (λ d. (D.state d).faults) values.old.items) (map (λ d. (D.state d).faults) values.new.items) (map D.M.faults meters.old.items) (map D.M.faults meters.new.items) }
+    ensures cause { EndsByCauses D.state D.M.faults result.outcome values.old.items values.new.items meters.old.items meters.new.items }
     ensures applied { AppliesToEach D.state (terms_in D.state P.rules context.now) values.old.items values.new.items }
     // Where all is done.
     ensures stored { result.outcome ≡ Outcome.Done → StoresOnEach D.state (terms_in D.state P.rules context.now) result.changed values.old.items values.new.items }

@@ -8,7 +8,7 @@ use Rattle.graph_model.specs.Rounds.{values}
 use Rattle.gather_laws.specs.Laws.{HaveRoom}
 use Rattle.ports.specs.Disk.{DiskState}
 use Rattle.ports.specs.Faults.{Rose}
-use Rattle.ports.specs.Devices.{OneRose, AreDevices, AreRows, OneRowRose, OneCountRose}
+use Rattle.ports.specs.Devices.{OneRose, OneRowRose, OneCountRose}
 use Rattle.chunk_cursor.specs.declared.view.View.{View}
 use Rattle.chunk_model.specs.Layout.{edge_layout}
 use Rattle.chunk_file.specs.declared.index.Place.{Place}
@@ -22,7 +22,6 @@ use Rattle.scatter_phase.specs.declared.desk.ScatterContext.{ScatterContext}
 use Rattle.scatter_phase.specs.Phases.{MayStopBy}
 use Rattle.scatter_phase.specs.Values.{HoldValues, HoldBefore}
 use Rattle.scatter_epoch.specs.declared.crew.Scattered.{Scattered}
-use Rattle.scatter_epoch.specs.Scattering as scattering
 use Rattle.scatter_epoch.specs.Scattering.{HaveScattered, RoseOfOne}
 use Rattle.epoch_laws.specs.Phases.{edge_shelf, sending_in, sent_in}
 use Rattle.list_moves.proofs.Desks.{some_of}
@@ -31,15 +30,6 @@ use Rattle.round_steps.specs.Standing.{IsSound, HasEdges}
 use Rattle.round_steps.specs.Updates.{Scatters}
 use Rattle.round_steps.proofs.Counts.{at_any}
 use Rattle.round_steps.proofs.Holding.{hold_last, hold_earlier}
-
-module _ {D : Type 0} (state : D → DiskState) where
-  pub rows_are : (engines number : ℕ) (rows : List (Vec D Global)) → AreRows state engines number rows → scattering.AreRows state engines number rows
-  rows_are engines number rows are = record {
-    many = are.all;
-    each = λ w row below.
-        let devices : AreDevices state engines number (slice_index_or rows w row).items = are.each w row (omega (arith, below, are.all)) in
-        record { many = devices.all; beats = λ e d within. devices.beats e d (omega (arith, within, devices.all)) };
-  }
 
 module _ {D M : Type 0} (state : D → DiskState) (faults : M → ℕ) (engines : ℕ) (meters meters' : List M) (rows rows' : List (Vec D Global)) where
   pub row_rose : length meters ≡ engines → length meters' ≡ engines → length rows ≡ engines → length rows' ≡ engines → RoseOfOne state faults engines meters meters' rows rows' → OneCountRose faults meters meters' ⊎ OneRowRose state rows rows'

@@ -6,8 +6,7 @@ use Rattle.partitioner.specs.declared.split.Split.{Split}
 use Rattle.partitioner.specs.Splits.{IsSplitOf, split_for}
 use Rattle.partitioner.proofs.Made.{split_is}
 use Rattle.store_model.specs.Slots.{device_size}
-use Rattle.store_reader.specs.Reading.{own_in}
-use Rattle.scatter_phase.specs.Rooms.{AreValueDevices}
+use Rattle.store_reader.specs.Reading.{own_in, AreValueDevices}
 
 pub devices_fit : {D : Type 0} (state : D → DiskState) (job : Job) (split : Split) (devices lent : List D) → IsSplitOf job split → lent ≡ devices → length devices ≡ job.engines
     → ((e : ℕ) (d : D) → e < job.engines → (state (slice_index_or devices e d)).size ≡ device_size (own_in (split_for job) e)) → AreValueDevices state split lent

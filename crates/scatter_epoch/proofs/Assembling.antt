@@ -7,7 +7,7 @@ use Rattle.std.proofs.lemmas.List.{get_or-map, length-map}
 use Rattle.graph_model.specs.Programs.{Rules}
 use Rattle.ports.specs.Disk.{DiskState}
 use Rattle.ports.specs.Faults.{Rose}
-use Rattle.ports.specs.Devices.{OneRose, NoneRose, MetersGoOn, NoRowRose, SameCounts}
+use Rattle.ports.specs.Devices.{AreDevices, AreRows, OneRose, NoneRose, MetersGoOn, NoRowRose, SameCounts}
 use Rattle.chunk_object.specs.History.{most_chunks}
 use Rattle.chunk_object.specs.Epochs.{Terms, list_of}
 use Rattle.chunk_object.specs.Duty.{IsDutiful}
@@ -23,7 +23,7 @@ use Rattle.update_lanes.specs.Lanes.{IsWithin, GoOn}
 use Rattle.scatter_phase.specs.declared.desk.ScatterContext.{ScatterContext}
 use Rattle.scatter_phase.specs.declared.desk.ScatterDesk.{ScatterDesk}
 use Rattle.scatter_phase.specs.declared.desk.ScatterRoom.{ScatterRoom}
-use Rattle.scatter_phase.specs.Rooms.{IsRoom, AreLanes}
+use Rattle.scatter_phase.specs.Rooms.{IsRoom}
 use Rattle.scatter_phase.specs.Phases.{MayStopBy}
 use Rattle.scatter_phase.specs.Scattered.{HasScattered}
 use Rattle.chunk_file.specs.declared.index.Place.{Place}
@@ -37,7 +37,7 @@ use Rattle.epoch_seats.proofs.Made.{list_is}
 use Rattle.list_moves.proofs.Desks.{some_of, at_desk, same_len, listed, same_by}
 use Rattle.scatter_epoch.specs.Desks.{IsReady, HasWorkedAt}
 use Rattle.scatter_epoch.specs.Dealing.{seat_at, meter_at, lanes_at, places_on, room_at, number_at, outcome_at, claims_at, admitted_at, AreDealt}
-use Rattle.scatter_epoch.specs.Scattering.{AreRows, RowsGoOn, SomeRose, RoseOfOne, HasScatteredAs, HaveScattered}
+use Rattle.scatter_epoch.specs.Scattering.{RowsGoOn, SomeRose, RoseOfOne, HasScatteredAs, HaveScattered}
 use Rattle.scatter_epoch.specs.Sent.{HaveSent}
 use Rattle.scatter_epoch.specs.declared.crew.Scattered.{Scattered}
 
@@ -73,7 +73,7 @@ module _ {P D G M : Type 0} (rules : P → Rules) (state : D → DiskState) (fau
           may = subst (λ (s : Hold). MayWork the_terms the_lens s.view) (sym seat) new.may;
           room = subst (IsRoom c.serving.job.now) (sym (at_desk room_at desks rooms dealt.rooms_are w d (room_at d) below)) (all_rooms w (room_at d) (omega (arith, same_len room_at desks rooms dealt.rooms_are)));
           places = none w d below;
-          lanes = subst (λ (r : Vec D Global). AreLanes state c.serving.job.now.engines c.beat.now r.items) (sym row) (lanes.each w (lanes_at d) (omega (arith, same_len lanes_at desks rows dealt.lanes_are)));
+          lanes = subst (λ (r : Vec D Global). AreDevices state c.serving.job.now.engines c.beat.now r.items) (sym row) (lanes.each w (lanes_at d) (omega (arith, all_desks)));
         }
 
     -- After it.
@@ -213,7 +213,7 @@ module _ {P D G M : Type 0} (rules : P → Rules) (state : D → DiskState) (fau
       pub wide : AreRows state c.serving.job.now.engines c.beat.now rows → (w : ℕ) (row : Vec D Global) → w < length rows' → length (get_or rows' w row).items ≡ c.serving.job.now.engines
       wide lanes w row below =
           let there : w < length rows = omega (arith, rows_go_on.many) in
-          (rows_go_on.each w row there).many ∙ (lanes.each w row there).many
+          (rows_go_on.each w row there).many ∙ (lanes.each w row (omega (arith, there, lanes.all))).all
 
       -- the outcome of the epoch is that of its workers, or there was no memory for the index
       module _ (result : Scattered) (index : List (List Place)) (ended_as : (result.outcome ≡ lowest_outcome all_outcomes) ⊎ ((lowest_outcome all_outcomes ≡ Done) × (result.outcome ≡ Memory))) where

@@ -1,15 +1,17 @@
 -- One worker in a scatter epoch, at its desk.
 use Rattle.std.specs.Prelude.{◌≡◌, ◌≢◌, ℕ, ◌^◌, ◌≤◌, []}
 use Rattle.graph_model.specs.Programs.{Rules}
+use Rattle.ports.specs.Devices.{AreDevices}
 use Rattle.ports.specs.Disk.{DiskState}
 use Rattle.phase_model.specs.JobTerms.{terms_of}
 use Rattle.worker_duty.specs.Views.{MayWork, HasWorked}
 use Rattle.store_reader.specs.declared.store.Outcome.TheVariants.{Done}
 use Rattle.store_reader.specs.Indexed.{IsServing, lens_of}
+use Rattle.store_reader.specs.Reading.{AreValueDevices}
 use Rattle.update_lanes.specs.Lanes.{GoOn}
 use Rattle.scatter_phase.specs.declared.desk.ScatterContext.{ScatterContext}
 use Rattle.scatter_phase.specs.declared.desk.ScatterDesk.{ScatterDesk}
-use Rattle.scatter_phase.specs.Rooms.{IsRoom, AreLanes, AreValueDevices, AreSlots}
+use Rattle.scatter_phase.specs.Rooms.{IsRoom, AreSlots}
 use Rattle.scatter_phase.specs.Phases.{MayStopBy, AreWithin}
 use Rattle.scatter_phase.specs.Scattered.{HasScattered, HasFaultCause}
 
@@ -29,7 +31,7 @@ module _ {P D G M : Type 0} (rules : P → Rules) (state : D → DiskState) (c :
     pub may : MayWork (terms_of c.serving.job.now) (lens_of c.serving.index.now) desk.seat.view
     pub room : IsRoom c.serving.job.now desk.room
     pub places : desk.places.items ≡ []
-    pub lanes : AreLanes state c.serving.job.now.engines c.beat.now desk.lanes.items
+    pub lanes : AreDevices state c.serving.job.now.engines c.beat.now desk.lanes.items
 
 module _ {P D G M : Type 0} (rules : P → Rules) (state : D → DiskState) (faults : M → ℕ) (c : ScatterContext P D G M) where
   -- what its work has made of the desk

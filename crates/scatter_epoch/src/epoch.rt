@@ -5,11 +5,11 @@ ghost use Rattle.phase_model.specs.declared.placed.Placed.{Placed as PlacedOf};
 ghost use Rattle.update_lanes.specs.Lanes.{IsWithin};
 ghost use Rattle.scatter_phase.specs.Phases.{MayStopBy};
 ghost use Rattle.epoch_seats.specs.Between.{IsBetweenEpochs};
-ghost use Rattle.ports.specs.Devices.{MetersGoOn, NoRowRose, SameCounts};
+ghost use Rattle.ports.specs.Devices.{AreRows, MetersGoOn, NoRowRose, SameCounts};
 ghost use Rattle.scatter_epoch.specs.Crews.{IsCrew};
 ghost use Rattle.scatter_epoch.specs.Joining.{IsIndexOf};
 ghost use Rattle.scatter_epoch.specs.Desks.{IsContext, IsReady, HasWorkedAt};
-ghost use Rattle.scatter_epoch.specs.Scattering.{AreRows, RowsGoOn, RoseOfOne, HaveScattered};
+ghost use Rattle.scatter_epoch.specs.Scattering.{RowsGoOn, RoseOfOne, HaveScattered};
 
 use crate::crew::{ScatterCrew, Scattered};
 use crate::index::index_places;

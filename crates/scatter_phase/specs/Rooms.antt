@@ -1,12 +1,8 @@
--- What a worker needs at hand: its buffers, its lanes, and the values devices.
-use Rattle.std.specs.Prelude.{◌≡◌, ℕ, ◌+◌, ◌*◌, ◌<◌, ◌≤◌, max, Option, IfSome, List, length, slice_index_or}
+-- What a worker needs at hand: its buffers, and the slots of the values devices.
+use Rattle.std.specs.Prelude.{◌≡◌, ℕ, ◌+◌, ◌*◌, ◌<◌, max, Option, IfSome, length}
 use Rattle.graph_model.specs.declared.job.Job.{Job}
 use Rattle.graph_model.specs.Jobs.{span_of}
-use Rattle.ports.specs.Disk.{DiskState}
-use Rattle.partitioner.specs.declared.split.Split.{Split}
 use Rattle.partitioner.specs.Splits.{IsSplitOf}
-use Rattle.store_model.specs.Slots.{device_size}
-use Rattle.store_reader.specs.Reading.{own_in}
 use Rattle.update_lanes.specs.Outgoing.{HasRoom}
 use Rattle.scatter_phase.specs.declared.desk.ScatterRoom.{ScatterRoom}
 
@@ -20,16 +16,6 @@ pub record IsRoom (job : Job) (room : ScatterRoom) : Type 0 where
   pub now : length room.now.items ≡ span_of job
   pub before : length room.before.items ≡ span_of job
   pub changed : length room.changed.items ≡ span_of job
-
--- one lane for each engine, to which nothing was written under a later beat
-pub record AreLanes {X : Type 0} (state : X → DiskState) (engines number : ℕ) (lanes : List X) : Type 0 where
-  pub many : length lanes ≡ engines
-  pub beats : (e : ℕ) (d : X) → e < length lanes → (state (slice_index_or lanes e d)).beat ≤ number
-
--- one values device for each engine, of the exact size for its vertices
-pub record AreValueDevices {X : Type 0} (state : X → DiskState) (split : Split) (devices : List X) : Type 0 where
-  pub many : length devices ≡ split.engines
-  pub exact : (e : ℕ) (d : X) → e < length devices → (state (slice_index_or devices e d)).size ≡ device_size (own_in split e)
 
 -- slots that a values device has
 pub record AreSlots (slot : ℕ) (before : Option ℕ) : Type 0 where

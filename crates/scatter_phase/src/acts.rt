@@ -10,7 +10,8 @@ ghost use Rattle.partitioner.specs.Splits.{IsSplit};
 ghost use Rattle.chunk_file.specs.Places.{places_of};
 ghost use Rattle.store_reader.specs.Serving.{told_at, place_at, AddsClaim, HasServed, OnServed, HasDevices, ReadsAt, RefusesAt};
 ghost use Rattle.store_reader.specs.Indexed.{IsServing};
-ghost use Rattle.scatter_phase.specs.Rooms.{AreValueDevices, AreSlots};
+ghost use Rattle.store_reader.specs.Reading.{AreValueDevices};
+ghost use Rattle.scatter_phase.specs.Rooms.{AreSlots};
 ghost use Rattle.scatter_phase.specs.Acting.{MayServeAt, HasServedAt, MayProposeAt, HasProposedAt, MayLeaveAt, HasLeftAt};
 
 use crate::desk::{ScatterContext, ScatterDesk};

@@ -3,8 +3,8 @@ ghost use Rattle.std.specs.Prelude.{◌≡◌, ◌*◌, ◌<◌, ◌≤◌, Some
 ghost use Rattle.graph_model.specs.declared.job.Job.{Job as JobOf};
 ghost use Rattle.ports.specs.Faults.{HasCause};
 ghost use Rattle.partitioner.specs.Splits.{IsSplit, IsSplitOf};
-ghost use Rattle.store_reader.specs.Reading.{len_in};
-ghost use Rattle.scatter_phase.specs.Rooms.{IsRoom, AreValueDevices, AreSlots};
+ghost use Rattle.store_reader.specs.Reading.{AreValueDevices, len_in};
+ghost use Rattle.scatter_phase.specs.Rooms.{IsRoom, AreSlots};
 ghost use Rattle.scatter_phase.specs.Phases.{IsSet, AreMarked, AreLoaded};
 
 use crate::desk::{ScatterContext, ScatterRoom};

@@ -4,9 +4,10 @@ ghost use Rattle.seeded_place.specs.Placing.{update_stream};
 ghost use Rattle.phase_model.specs.JobTerms.{terms_of};
 ghost use Rattle.worker_duty.specs.Views.{taken_by_seat, MayWork, HasWorked};
 ghost use Rattle.store_reader.specs.Indexed.{IsServing, lens_of};
+ghost use Rattle.store_reader.specs.Reading.{AreValueDevices};
 ghost use Rattle.update_lanes.specs.Lanes.{GoOn};
-ghost use Rattle.ports.specs.Devices.{OneRose, NoneRose};
-ghost use Rattle.scatter_phase.specs.Rooms.{IsRoom, AreLanes, AreValueDevices, AreSlots};
+ghost use Rattle.ports.specs.Devices.{AreDevices, OneRose, NoneRose};
+ghost use Rattle.scatter_phase.specs.Rooms.{IsRoom, AreSlots};
 ghost use Rattle.scatter_phase.specs.Phases.{GoesOn, DeskHolds, DeskStops, MayStopBy, AreWithin};
 ghost use Rattle.scatter_phase.specs.Scattered.{HasScattered, HasFaultCause, ArePlacesFew};
 ghost use Rattle.scatter_phase.specs.Acting.{MayServeAt, HasServedAt, MayProposeAt, HasProposedAt, MayLeaveAt, HasLeftAt};
@@ -63,7 +64,7 @@ pub fn scatter_work<P: VertexProgram, D: Disk, G: Gate + Sync>(
     requires may { MayWork (terms_of context.now.serving.job.now) (lens_of context.now.serving.index.now) desk.old.seat.view }
     requires room { IsRoom context.now.serving.job.now desk.old.room }
     requires places { desk.old.places.items ≡ [] }
-    requires lanes { AreLanes D.state context.now.serving.job.now.engines context.now.beat.now desk.old.lanes.items }
+    requires lanes { AreDevices D.state context.now.serving.job.now.engines context.now.beat.now desk.old.lanes.items }
     requires values { AreValueDevices D.state context.now.serving.split.now context.now.values.now }
     requires slots { AreSlots context.now.slot context.now.before }
     requires epoch { context.now.epoch ≤ 2 ^ 32 }
@@ -109,7 +110,7 @@ fn begin<P: VertexProgram, D: Disk, G: Gate>(
     requires story { desk.old.seat.view.story ≡ [] }
     requires room { IsRoom context.now.serving.job.now desk.old.room }
     requires places { desk.old.places.items ≡ [] }
-    requires lanes { AreLanes D.state context.now.serving.job.now.engines context.now.beat.now desk.old.lanes.items }
+    requires lanes { AreDevices D.state context.now.serving.job.now.engines context.now.beat.now desk.old.lanes.items }
     requires epoch { context.now.epoch ≤ 2 ^ 32 }
     ensures seat { (desk.new.seat ≡ desk.old.seat) × (desk.new.places ≡ desk.old.places) }
     ensures same { (desk.new.worker ≡ desk.old.worker) × (desk.new.meter ≡ desk.old.meter) }

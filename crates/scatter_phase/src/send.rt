@@ -7,7 +7,8 @@ ghost use Rattle.phase_model.specs.Sends.{sent_by};
 ghost use Rattle.update_lanes.specs.Lanes.{AreReady};
 ghost use Rattle.update_lanes.specs.Outgoing.{NoneFull, SendsOn, StopsOn};
 ghost use Rattle.ports.specs.Devices.{OneRose, NoneRose};
-ghost use Rattle.scatter_phase.specs.Rooms.{IsRoom, AreValueDevices, AreSlots};
+ghost use Rattle.store_reader.specs.Reading.{AreValueDevices};
+ghost use Rattle.scatter_phase.specs.Rooms.{IsRoom, AreSlots};
 ghost use Rattle.scatter_phase.specs.Phases.{GoesOn, IsOpen, AreMarkedSince};
 ghost use Rattle.scatter_phase.specs.Sending.{HasSentFor, KeepsBuffers, sending_in};
 

@@ -9,6 +9,7 @@ use Rattle.chunk_object.specs.declared.call.Call.{Call}
 use Rattle.chunk_object.specs.declared.call.Call.TheVariants.{Open, Greet, Took, Exhausted, Look, Heads, Admitted, Contended, Split, Join}
 use Rattle.chunk_object.specs.Epochs.{cursor_of, Terms}
 use Rattle.chunk_object.specs.Duty.{partition_of, is_on, claims_at, IsClaim, EndsExhausted, ClaimsToTheEnd, Accepts, looks_from, FollowsHeads}
+use Rattle.chunk_object.proofs.Dutiful.{is_on_claims}
 use Rattle.chunk_cursor.specs.declared.view.View.{View}
 use Rattle.chunk_cursor.specs.View.{with_calls}
 use Rattle.chunk_cursor.proofs.Knowing.{with_calls-append}

@@ -3,11 +3,11 @@ use Rattle.std.proofs.Common.{ℕ, refl, subst, arith}
 use Rattle.graph_model.specs.Rounds.{IsWithinGraph}
 use Rattle.ports.specs.Devices.{AreRows}
 use Rattle.round_steps.proofs.Damage.{scatters_names}
-use Rattle.round_steps.proofs.Scattered.{rows_are, row_rose, scatters_soundly, scatters}
+use Rattle.round_steps.proofs.Scattered.{row_rose, scatters_soundly, scatters}
 use Rattle.round_steps.proofs.updates.scatter_edges.Goals as goal
 
 pub scatter_all-requires-clause-lanes : goal.scatter_all-requires-clause-lanes
-scatter_all-requires-clause-lanes g c = λ κs outlives. rows_are g.D.Disk.state c.args.run.now.job.now.engines c.args.beat.now c.args.lanes.now.items (subst (λ (n : ℕ). AreRows g.D.Disk.state n c.args.beat.now c.args.lanes.now.items) (omega arith) c.requires.lanes)
+scatter_all-requires-clause-lanes g c = λ κs outlives. subst (λ (n : ℕ). AreRows g.D.Disk.state n c.args.beat.now c.args.lanes.now.items) (omega arith) c.requires.lanes
 
 pub returns-clause-lanes : goal.returns-clause-lanes
 returns-clause-lanes g c = c.scatter_all.ensures.lanes

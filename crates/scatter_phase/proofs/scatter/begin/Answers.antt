@@ -19,8 +19,8 @@ returns-clause-holds g c =
     let none_full : NoneFull c.reset.new.out.size c.reset.new.out.buffers.items = λ p d below. omega (arith, (c.reset.ensures.none p d below).0, c.reset.ensures.room.size.0) in
     let ready : AreReady g.D.Disk.state c.reset.new.out.split.engines c.args.context.now.beat.now (length c.args.desk.now.places.items) c.empty_lanes.new.lanes.items =
     record {
-      many = go_on.many ∙ (c.requires.lanes.many ∙ sym of_job.engines);
-      beats = λ e d below. go_on.beats e d (omega (arith, go_on.many, below)) (c.requires.lanes.beats e d (omega (arith, go_on.many, below)));
+      many = go_on.many ∙ (c.requires.lanes.all ∙ sym of_job.engines);
+      beats = λ e d below. go_on.beats e d (omega (arith, go_on.many, below)) (c.requires.lanes.beats e d (omega (arith, go_on.many, c.requires.lanes.all, below)));
       sizes = λ e d below. omega (arith, (empty e d below).size_is);
     } in
     let within : All (IsWithin job.engines c.args.context.now.serving.split.now.parts) c.args.desk.now.places.items =
