@@ -30,8 +30,8 @@ capped counts = min (sum counts) (2 ^ 64 - 1)
 
 -- All is done and no count rose, or that of a meter or of a device did. Counts never fall.
 module _ {D M : Type 0} (state : D → DiskState) (faults : M → ℕ) where
-  pub record EndsByCauses (outcome : Outcome) (olds news : List D) (meters meters' : List M) : Type 0 where
-    pub ends : (outcome ≡ Done) ⊎ ((outcome ≡ DiskFault) × (OneCountRose faults meters meters' ⊎ OneRose state olds news))
-    pub disks : Each state (λ old new. old.faults ≤ new.faults) olds news
-    pub meters : MetersGoOn faults meters meters'
-    pub calm : outcome ≡ Done → SameCounts faults meters meters' × NoneRose state olds news
+  pub record EndsByCauses (outcome : Outcome) (disks_before disks_now : List D) (meters_before meters_now : List M) : Type 0 where
+    pub ends : (outcome ≡ Done) ⊎ ((outcome ≡ DiskFault) × (OneCountRose faults meters_before meters_now ⊎ OneRose state disks_before disks_now))
+    pub disks : Each state (λ old new. old.faults ≤ new.faults) disks_before disks_now
+    pub meters : MetersGoOn faults meters_before meters_now
+    pub calm : outcome ≡ Done → SameCounts faults meters_before meters_now × NoneRose state disks_before disks_now
