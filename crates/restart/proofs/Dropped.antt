@@ -9,6 +9,7 @@ use Rattle.ports.specs.Stops.{Leaves, LeavesByBeat, EachLeaves, EachImage, AreIm
 use Rattle.ports.proofs.Parts.{cut_same}
 use Rattle.ports.proofs.Stops.{weaker, by_beat, by_beat_weaker, in_turn, later_beat, started_by_beat, each_leaves, each_of_stop, each_image_weaker}
 use Rattle.ports.specs.Devices.{Each, OneRose}
+use Rattle.ports.proofs.Rising.{one_rose_before}
 use Rattle.store_model.specs.Heads.{IsShutGraph}
 use Rattle.store_model.specs.Kept.{IsUnprepared}
 use Rattle.restart.specs.Dropping.{IsAsBeforeOrShut, WhileDropped, WhileEmptied, Closes, Empties}
@@ -127,9 +128,5 @@ stops_of_drop number last olds news olds' news' dropped emptied b graphs values 
 
 -- The cause of a fault: a count that rose in the second beat is higher than at the start.
 pub rose_later : {X : Type 0} (state : X → DiskState) (number : ℕ) (olds mids news : List X) → Each state (Closes number) olds mids → OneRose state mids news → OneRose state olds news
-rose_later state number olds mids news closes rose = (
-  rose.0,
-  omega (arith, rose.1, closes.many),
-  λ d.
-      omega (arith, (closes.each rose.0 d (omega (arith, rose.1, closes.many))).faults, rose.2 d),
-)
+rose_later state number olds mids news closes rose =
+    one_rose_before (λ x. (state x).faults) olds mids news closes.many (λ k d within. (closes.each k d within).faults) rose

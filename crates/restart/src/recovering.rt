@@ -1,5 +1,5 @@
 //! What stands in a store that is opened again.
-ghost use Rattle.std.specs.Prelude.{◌≡◌, ℕ, ◌<◌, ◌≤◌, List, length, slice_index_or, None, IfOk, IfErr, OnOk};
+ghost use Rattle.std.specs.Prelude.{◌≡◌, ◌≢◌, ℕ, ◌<◌, ◌≤◌, List, length, slice_index_or, None, IfOk, IfErr, OnOk, Err};
 ghost use Rattle.ports.specs.Faults.{Rose};
 ghost use Rattle.graph_model.specs.declared.edge.Edge.{Edge};
 ghost use Rattle.graph_model.specs.declared.job.Job.{Job};
@@ -66,7 +66,7 @@ pub fn recover<D: Disk>(
     ensures cause_of_job { (job : Job) (edges : List Edge) (graphs values : List (List ℕ)) → IsStorable job edges → StoreOf job edges graphs values
         → Tell D.state store.now.graphs.items graphs → Tell D.state store.now.values.items values → IfErr result (HasCauseOfJob graphs) }
     ensures later { D.M.faults meter.old ≤ D.M.faults meter.new }
-    ensures calm { OnOk result (D.M.faults meter.new ≡ D.M.faults meter.old) }
+    ensures calm { result ≢ Err RecoverFault.DiskFault → D.M.faults meter.new ≡ D.M.faults meter.old }
     ensures cause { IfErr result (HasRecoverCause (Rose (D.M.faults meter.old) (D.M.faults meter.new))
         (λ fault. (graphs values : List (List ℕ)) → Tell D.state store.now.graphs.items graphs → Tell D.state store.now.values.items values
         → HasFault graphs values fault)) }
@@ -105,7 +105,7 @@ fn open_job<D: Disk>(store: &Store<D>, meter: &mut D::M) -> Result<Job, RecoverF
     ensures prepared { (graphs : List (List ℕ)) → Tell D.state store.now.graphs.items graphs → OnOk result (IsPrepared graphs) }
     ensures sound { (graphs : List (List ℕ)) → Tell D.state store.now.graphs.items graphs → OnOk result (heads_fault graphs ≡ None) }
     ensures later { D.M.faults meter.old ≤ D.M.faults meter.new }
-    ensures calm { OnOk result (D.M.faults meter.new ≡ D.M.faults meter.old) }
+    ensures calm { result ≢ Err RecoverFault.DiskFault → D.M.faults meter.new ≡ D.M.faults meter.old }
     ensures cause { IfErr result (HasRecoverCause (Rose (D.M.faults meter.old) (D.M.faults meter.new))
         (λ fault. (graphs values : List (List ℕ)) → Tell D.state store.now.graphs.items graphs → HasFault graphs values fault)) }
 {

@@ -1,7 +1,7 @@
 use Rattle.std.proofs.Common.{◌∙◌, ◌<◌, length, rules, arith}
 use Rattle.std.proofs.lemmas.Grind.{common_steps}
-use Rattle.std.proofs.Math.Seq.{map-set_same}
-use Rattle.restart.proofs.Devices.{one_done}
+use Rattle.ports.proofs.Rising.{same_here}
+use Rattle.graph_model.proofs.OneByOne.{one_done}
 use Rattle.restart.proofs.dropping.close_all.Goals as goal
 
 pub loop-disk-preserved : goal.loop-disk-preserved
@@ -14,6 +14,6 @@ loop-disk-preserved g c =
       later = omega (arith, before, closed);
       calm = c.in_ok-close_gate.ensures.cause.calm.0 ∙ c.loop-disk.invariant.calm;
       calm_graphs =
-          map-set_same (λ x. (g.D.Disk.state x).faults) c.loop-disk.graphs c.loop-disk.disk-index c.close_gate.new.disk c.disk-item.result c.in_ok-close_gate.ensures.cause.calm.1
-          ∙ c.loop-disk.invariant.calm_graphs;
+          same_here (λ x. (g.D.Disk.state x).faults) c.args.graphs.now c.loop-disk.graphs c.loop-disk.disk-index c.disk-item.result c.close_gate.new.disk
+          c.loop-disk.invariant.calm_graphs c.in_ok-close_gate.ensures.cause.calm.1;
     }

@@ -7,7 +7,8 @@ use Rattle.ports.proofs.Rising.{on_err}
 use Rattle.ports.specs.Devices.{Each, OneRose}
 use Rattle.store_model.specs.Heads.{IsShutGraph}
 use Rattle.restart.specs.Dropping.{Closes, Empties}
-use Rattle.restart.proofs.Devices.{on_err_map, given_back}
+use Rattle.std.proofs.lemmas.Result.{on_err_weaker}
+use Rattle.restart.proofs.Devices.{given_back}
 use Rattle.restart.proofs.Dropped.{graphs_dropped, graphs_closed, all_values_emptied, all_values_kept, stops_of_drop, rose_later}
 use Rattle.restart.proofs.dropping.drop_store.Goals as goal
 
@@ -69,7 +70,7 @@ returns-clause-cause g c =
     let graphs = c.args.store.now.graphs in
     let mids = (with_items graphs c.close_all.new.graphs).items in
     let closes = given_back (Each g.D.Disk.state (Closes c.args.beat.now)) graphs c.deref_mut.result.now c.close_all.new.graphs c.deref_mut.ensures.value c.close_all.ensures.closes.many c.close_all.ensures.closes in
-    on_err_map c.empty_store.result
+    on_err_weaker c.empty_store.result
     (λ rose. elim rose [
       | inl first ↦ inr (inl (rose_later g.D.Disk.state c.args.beat.now graphs.items mids c.empty_store.new.store.graphs.items closes first))
       | inr others ↦ inr (inr others)

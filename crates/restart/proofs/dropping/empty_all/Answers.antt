@@ -1,7 +1,7 @@
-use Rattle.std.proofs.Common.{◌∙◌, ◌<◌, length, rules, arith}
+use Rattle.std.proofs.Common.{◌<◌, length, rules, arith}
 use Rattle.std.proofs.lemmas.Grind.{common_steps}
-use Rattle.std.proofs.Math.Seq.{map-set_same}
-use Rattle.restart.proofs.Devices.{one_done}
+use Rattle.ports.proofs.Rising.{same_here}
+use Rattle.graph_model.proofs.OneByOne.{one_done}
 use Rattle.restart.proofs.dropping.empty_all.Goals as goal
 
 pub loop-disk-preserved : goal.loop-disk-preserved
@@ -10,6 +10,6 @@ loop-disk-preserved g c =
     record {
       done = one_done _ _ c.loop-disk.disk-index c.args.disks.now c.loop-disk.disks c.disk-item.result c.empty.new.disk within c.loop-disk.invariant.done c.empty.ensures.empties c.in_ok-empty.ensures.empty;
       calm =
-          map-set_same (λ x. (g.D.Disk.state x).faults) c.loop-disk.disks c.loop-disk.disk-index c.empty.new.disk c.disk-item.result c.in_ok-empty.ensures.cause.calm
-          ∙ c.loop-disk.invariant.calm;
+          same_here (λ x. (g.D.Disk.state x).faults) c.args.disks.now c.loop-disk.disks c.loop-disk.disk-index c.disk-item.result c.empty.new.disk
+          c.loop-disk.invariant.calm c.in_ok-empty.ensures.cause.calm;
     }

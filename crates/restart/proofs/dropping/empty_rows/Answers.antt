@@ -1,12 +1,12 @@
-use Rattle.std.proofs.Common.{◌≡◌, ◌∙◌, ◌<◌, length, get_or, map, rules, arith}
+use Rattle.std.proofs.Common.{◌≡◌, ◌<◌, length, get_or, map, rules, arith}
 use Rattle.std.proofs.lemmas.Grind.{common_steps}
 use Rattle.std.specs.List.{All}
 use Rattle.std.specs.Vec.{with_items}
-use Rattle.std.proofs.Math.Seq.{map-set_same}
-use Rattle.ports.proofs.Rising.{on_err}
+use Rattle.ports.proofs.Rising.{on_err, same_here}
 use Rattle.ports.specs.Devices.{Each, OneRose, NoneRose}
 use Rattle.restart.specs.Dropping.{Empties, IsEmpty}
-use Rattle.restart.proofs.Devices.{next_steps, one_done, given_back, row_rose_here}
+use Rattle.graph_model.proofs.OneByOne.{next_steps, one_done}
+use Rattle.restart.proofs.Devices.{given_back, row_rose_here}
 use Rattle.restart.proofs.dropping.empty_rows.Goals as goal
 
 pub loop-row-preserved : goal.loop-row-preserved
@@ -20,9 +20,9 @@ loop-row-preserved g c =
           (given_back (Each g.D.Disk.state (Empties c.args.beat.now)) row c.deref_mut.result.now c.empty_all.new.disks lent many c.empty_all.ensures.empties)
           (given_back (λ olds news. All (λ disk. IsEmpty (g.D.Disk.state disk)) news) row c.deref_mut.result.now c.empty_all.new.disks lent many c.in_ok-empty_all.ensures.empty);
       calm =
-          map-set_same (λ r. map (λ x. (g.D.Disk.state x).faults) r.items) c.loop-row.rows c.loop-row.row-index (with_items row c.empty_all.new.disks) c.row-item.result
-          (given_back (NoneRose g.D.Disk.state) row c.deref_mut.result.now c.empty_all.new.disks lent many c.in_ok-empty_all.ensures.calm)
-          ∙ c.loop-row.invariant.calm;
+          same_here (λ r. map (λ x. (g.D.Disk.state x).faults) r.items) c.args.rows.now c.loop-row.rows c.loop-row.row-index c.row-item.result (with_items row c.empty_all.new.disks)
+          c.loop-row.invariant.calm
+          (given_back (NoneRose g.D.Disk.state) row c.deref_mut.result.now c.empty_all.new.disks lent many c.in_ok-empty_all.ensures.calm);
     }
 
 pub returns-in_err-empty_all-clause-empties : goal.returns-in_err-empty_all-clause-empties

@@ -1,7 +1,8 @@
 use Rattle.std.proofs.Common.{inl, inr}
 use Rattle.ports.proofs.Rising.{on_err}
 use Rattle.ports.specs.Devices.{OneRose, OneRowRose}
-use Rattle.restart.proofs.Devices.{on_err_map, given_back}
+use Rattle.std.proofs.lemmas.Result.{on_err_weaker}
+use Rattle.restart.proofs.Devices.{given_back}
 use Rattle.restart.proofs.dropping.empty_store.Goals as goal
 
 pub returns-in_err-empty_rows-clause-cause : goal.returns-in_err-empty_rows-clause-cause
@@ -13,6 +14,6 @@ returns-in_err-empty_rows-clause-cause g c =
 pub returns-clause-cause : goal.returns-clause-cause
 returns-clause-cause g c =
     let last = c.empty_all-3 in
-    on_err_map last.result
+    on_err_weaker last.result
     (λ rose. inr (inr (inr (given_back (OneRose g.D.Disk.state) c.args.store.now.spills c.deref_mut-4.result.now last.new.disks c.deref_mut-4.ensures.value last.ensures.empties.many rose))))
     last.ensures.cause

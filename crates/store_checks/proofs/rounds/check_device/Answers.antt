@@ -14,8 +14,7 @@ returns-then-size-size_of-clause-cause g c =
     let disks = g.met.D.Disk g.world.𝓛 g.world.𝓜 g.world.𝓡 ((λ s x. x), (λ x. x), (λ x. x), λ x. x) in
     let own = own_in c.args.split.now c.args.engine in
     let disk = g.D.Disk.state c.args.disk.now in
-    subst (HasRecoverCause (Rose (g.D.M.Meter.faults c.args.meter.now) (g.D.M.Meter.faults c.args.meter.now))
-    (λ fault. (told : List ℕ) → disk.bytes ≡ Some told → device_fault own c.args.engine told ≡ Some fault))
+    subst (HasRecoverCause _ (λ fault. (told : List ℕ) → disk.bytes ≡ Some told → device_fault own c.args.engine told ≡ Some fault))
     (sym c.damaged_device.ensures)
     (λ told is. wrong_size own c.args.engine told (λ exact.
     let size : c.size_of.result ≡ device_size own = c.size_of.ensures ∙ ap device_size c.own.ensures in
