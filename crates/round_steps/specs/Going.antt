@@ -5,7 +5,7 @@ use Rattle.ports.specs.Disk.{DiskState, IsSettled, InEveryImage}
 use Rattle.ports.specs.Faults.{Rose}
 use Rattle.ports.specs.Stops.{Leaves}
 use Rattle.ports.specs.Told.{AsTold}
-use Rattle.ports.specs.Devices.{OneRose, NoneRose, NoRowRose, SameCounts}
+use Rattle.ports.specs.Devices.{AreDevices, AreRows, OneCountRose, OneRose, OneRowRose, NoneRose, NoRowRose, SameCounts}
 use Rattle.partitioner.specs.declared.split.Split.{Split}
 use Rattle.store_model.specs.Slots.{device_size, slot_of}
 use Rattle.store_reader.specs.Reading.{own_in}
