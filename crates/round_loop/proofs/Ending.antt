@@ -1,8 +1,7 @@
 -- How a run ends.
-use Rattle.std.proofs.Common.{◌≡◌, ◌≢◌, ℕ, ◌+◌, ◌-◌, ◌*◌, ◌<◌, ◌≤◌, Bool, true, false, if◌then◌else◌, None, List, [], ◌∷◌, ◌++◌, length, get_or, Result, Ok, Err, OnOk, IsErrOf, inl, inr, refl, sym, ◌∙◌, ap, subst, arith}
+use Rattle.std.proofs.Common.{◌≡◌, ◌≢◌, ℕ, ◌+◌, ◌-◌, ◌*◌, ◌<◌, ◌≤◌, Bool, true, false, if◌then◌else◌, None, List, [], ◌∷◌, ◌++◌, length, get_or, Result, Ok, Err, IsErrOf, inl, inr, refl, sym, ◌∙◌, ap, subst, arith}
 use Rattle.std.proofs.lemmas.Bool.{cases_lt}
 use Rattle.std.proofs.lemmas.List.{get_or_append_left, length-append, map-append}
-use Rattle.std.proofs.lemmas.Result.{on_ok_weaker}
 use Rattle.graph_model.specs.declared.edge.Edge.{Edge}
 use Rattle.graph_model.specs.declared.job.Job.{Job}
 use Rattle.graph_model.specs.Programs.{Rules}
@@ -23,7 +22,7 @@ use Rattle.phase_model.specs.JobTerms.{terms_of}
 use Rattle.phase_model.specs.Taken.{claims, admissions}
 use Rattle.std.specs.List.{flat_map}
 use Rattle.round_steps.specs.Epochs.{GoesThrough}
-use Rattle.round_steps.specs.Going.{IsStore, SomeRose}
+use Rattle.round_steps.specs.Going.{IsStore, SomeRose, NoDeviceRose}
 use Rattle.round_steps.specs.Standing.{IsSound, HaveEdges}
 use Rattle.round_steps.specs.Damage.{IsDamage, NamesDamage}
 use Rattle.round_loop.specs.declared.run.Start.{Start}
@@ -38,7 +37,7 @@ use Rattle.round_loop.specs.Opening.{AreEpochsOf}
 use Rattle.round_loop.specs.Kept.{StandsAfter}
 use Rattle.round_loop.specs.Keeping.{IsTold, Moment, moment}
 use Rattle.round_loop.specs.Coming.{EndsAt, ComesWell, HasCome}
-use Rattle.round_loop.specs.Run.{HasComeTo, HasRun}
+use Rattle.round_loop.specs.Run.{OnMade, HasComeTo, HasRun}
 use Rattle.round_loop.proofs.Reaching.{ends_at_last, ends_unsettled}
 use Rattle.round_loop.proofs.Stopping.{none_yet}
 use Rattle.round_steps.proofs.Kept.{meters_same}
@@ -53,7 +52,7 @@ disk_fault_of outcomes.DiskFault fault of is = refl
 disk_fault_of (outcomes.Damaged part engine place) fault of is = absurd cc
 disk_fault_of outcomes.Memory fault of is = absurd cc
 
-no_limit : (outcome : Outcome) (fault : RoundFault) → IsFaultOf outcome fault → fault ≡ faulty.RoundLimit → ⊥
+pub no_limit : (outcome : Outcome) (fault : RoundFault) → IsFaultOf outcome fault → fault ≡ faulty.RoundLimit → ⊥
 no_limit outcomes.Done fault of is = of
 no_limit outcomes.DiskFault fault of is = cc
 no_limit (outcomes.Damaged part engine place) fault of is = cc
@@ -80,6 +79,20 @@ named_damage IsDamaged outcomes.Memory fault of names part engine place is = abs
 
 err_is : (a b : RoundFault) → IsErrOf {T = Done} (Err a) b → a ≡ b
 err_is a b is = cc
+
+-- nothing is said of a run that a fault has stopped
+pub not_made : (P : Type 0) (fault : RoundFault) → (fault ≡ faulty.RoundLimit → ⊥) → OnMade (Err fault) P
+not_made P faulty.RoundLimit by_fault = absurd (by_fault refl)
+not_made P faulty.DiskFault by_fault = tt
+not_made P (faulty.Damaged part engine place) by_fault = tt
+not_made P faulty.Memory by_fault = tt
+
+pub on_made_weaker : (P Q : Type 0) (result : Result Done RoundFault) → (P → Q) → OnMade result P → OnMade result Q
+on_made_weaker P Q (Ok done) weaker made = weaker made
+on_made_weaker P Q (Err faulty.RoundLimit) weaker made = weaker made
+on_made_weaker P Q (Err faulty.DiskFault) weaker made = tt
+on_made_weaker P Q (Err (faulty.Damaged part engine place)) weaker made = tt
+on_made_weaker P Q (Err faulty.Memory) weaker made = tt
 
 -- the numbers of epochs tell the round
 same_round : (base first round r long : ℕ) → base + 2 * (round - 1 + 1 - first) < long → long ≤ base + 2 * (round + 1 - first) → base + 2 * (r - 1 + 1 - first) < long → long ≤ base + 2 * (r + 1 - first) → 1 ≤ round → 1 ≤ r → r ≡ round
@@ -120,7 +133,7 @@ module _ {D M : Type 0} (state : D → DiskState) (faults : M → ℕ) (rules : 
       keeps = come.keeps;
       meters = come.meters;
       rose = λ is. rose (disk_fault_of outcome fault of (err_is fault faulty.DiskFault is));
-      calm = tt;
+      calm = not_made (NoDeviceRose state from.store new.store) fault (no_limit outcome fault of);
       beats = (come.rises.0, omega (arith, come.rises.1));
       epochs = epochs;
       through = through;
@@ -193,7 +206,7 @@ module _ {D M : Type 0} (state : D → DiskState) (faults : M → ℕ) (rules : 
             keeps = come.keeps;
             meters = come.meters;
             rose = λ is. absurd cc;
-            calm = tt;
+            calm = (come.calm is_done).1;
             beats = (come.rises.0, omega (arith, come.rises.1));
             epochs = epochs;
             through = through;
@@ -285,8 +298,8 @@ module _ {D M : Type 0} (state : D → DiskState) (faults : M → ℕ) (rules : 
       | inr device ↦ inr device
     ]
 
-    pub calm_with : OnOk result (SameCounts faults olds news) → OnOk result (SameCounts faults (olds ++ own ∷ []) (news ++ own ∷ []))
-    calm_with calm = on_ok_weaker result (λ still. map-append faults news (own ∷ []) ∙ (ap (λ counts. counts ++ faults own ∷ []) still ∙ sym (map-append faults olds (own ∷ [])))) calm
+    pub calm_with : OnMade result (SameCounts faults olds news) → OnMade result (SameCounts faults (olds ++ own ∷ []) (news ++ own ∷ []))
+    calm_with calm = on_made_weaker (SameCounts faults olds news) (SameCounts faults (olds ++ own ∷ []) (news ++ own ∷ [])) result (λ still. map-append faults news (own ∷ []) ∙ (ap (λ counts. counts ++ faults own ∷ []) still ∙ sym (map-append faults olds (own ∷ [])))) calm
 
     pub run_with : HasRun state faults rules job start index (moment old_store (olds ++ own ∷ []) old_seat old_beat) (moment new_store (news ++ own ∷ []) new_seat new_beat) result
     run_with = record {

@@ -1,5 +1,5 @@
 -- What a run is seen to do.
-use Rattle.std.specs.Prelude.{◌≡◌, ◌⊎◌, ℕ, ◌+◌, ◌-◌, ◌<◌, ◌≤◌, None, List, length, slice_index_or, flat_map, Result, IfOk, OnOk, IsErr, IsErrOf}
+use Rattle.std.specs.Prelude.{◌≡◌, ◌⊎◌, ⊤, ℕ, ◌+◌, ◌-◌, ◌<◌, ◌≤◌, None, List, length, slice_index_or, flat_map, Result, Ok, Err, IfOk, IsErr, IsErrOf}
 use Rattle.std.specs.List.{All}
 use Rattle.graph_model.specs.declared.edge.Edge.{Edge}
 use Rattle.graph_model.specs.declared.job.Job.{Job}
@@ -26,6 +26,12 @@ use Rattle.round_loop.specs.Starts.{first_made, first_sent, counts_first, epochs
 use Rattle.round_loop.specs.Opening.{AreEpochsOf}
 use Rattle.round_loop.specs.Kept.{Left, LeftSince, StandsAfter, IsGoodStart}
 use Rattle.round_loop.specs.Keeping.{Keeps, IsTold, Moment}
+
+-- of a run that went on until no further round was to be made: to its last one, or to the limit
+abbrev pub OnMade : Result Done RoundFault → Type 0 → Type 0
+OnMade (Ok done) P = P
+OnMade (Err RoundLimit) P = P
+OnMade _ P = ⊤
 
 module _ {D M : Type 0} (state : D → DiskState) (rules : Rules) (job : Job) (start : Start) (edges : List Edge) where
   -- **A run on a good store**, over the edges that stand there
@@ -57,7 +63,7 @@ module _ {D M : Type 0} (state : D → DiskState) (faults : M → ℕ) (rules : 
     pub keeps : Keeps state old.store new.store
     pub meters : MetersGoOn faults old.meters new.meters
     pub rose : IsErrOf result DiskFault → SomeRose state faults old.store new.store old.meters new.meters
-    pub calm : OnOk result (NoDeviceRose state old.store new.store)
+    pub calm : OnMade result (NoDeviceRose state old.store new.store)
     pub beats : (old.beat ≤ new.beat) × (new.beat ≤ old.beat + 1000002)
     -- the seat went through epochs of the job
     pub epochs : List Epoch

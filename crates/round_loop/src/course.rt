@@ -50,6 +50,7 @@ pub(crate) fn begin<R: Threads + Sync, P: VertexProgram, D: Disk, G: Gate + Sync
     ensures crews { AreCrews run.now.job.now run.now.split.now crews.new }
     ensures table { seat.new.table ≡ seat.old.table }
     ensures room { vec_capacity meters.old ≤ vec_capacity meters.new }
+    ensures limit { result ≢ Err RoundFault.RoundLimit }
     ensures course { MatchResult result
         (λ so_far. (so_far.round ≡ 0) × IsAt D.state D.M.faults (P.rules run.now.program.now) run.now.job.now Start.Fresh run.now.index.now so_far (moment store.old meters.old.items seat.old.view beat.old) (moment store.new meters.new.items seat.new.view beat.new))
         (λ fault. HasRun D.state D.M.faults (P.rules run.now.program.now) run.now.job.now Start.Fresh run.now.index.now (moment store.old meters.old.items seat.old.view beat.old) (moment store.new meters.new.items seat.new.view beat.new) (Err fault)) }
@@ -91,6 +92,7 @@ pub(crate) fn go_on<R: Threads + Sync, P: VertexProgram, D: Disk, G: Gate + Sync
     ensures crews { AreCrews run.now.job.now run.now.split.now crews.new }
     ensures table { seat.new.table ≡ seat.old.table }
     ensures room { vec_capacity meters.old ≤ vec_capacity meters.new }
+    ensures limit { result ≢ Err RoundFault.RoundLimit }
     ensures course { (from : Moment D D.M) → IsAt D.state D.M.faults (P.rules run.now.program.now) run.now.job.now start run.now.index.now so_far from (moment store.old meters.old.items seat.old.view beat.old) → MatchResult result
         (λ next. (next.round ≡ so_far.round + 1) × IsAt D.state D.M.faults (P.rules run.now.program.now) run.now.job.now start run.now.index.now next from (moment store.new meters.new.items seat.new.view beat.new))
         (λ fault. HasRun D.state D.M.faults (P.rules run.now.program.now) run.now.job.now start run.now.index.now from (moment store.new meters.new.items seat.new.view beat.new) (Err fault)) }

@@ -1,5 +1,5 @@
 //! A run, from its start to its end.
-ghost use Rattle.std.specs.Prelude.{◌≡◌, ℕ, ◌+◌, ◌^◌, ◌<◌, ◌≤◌, None, Some, OnOk, length, vec_len, vec_capacity, ◌++◌, ◌∷◌, []};
+ghost use Rattle.std.specs.Prelude.{◌≡◌, ℕ, ◌+◌, ◌^◌, ◌<◌, ◌≤◌, None, Some, length, vec_len, vec_capacity, ◌++◌, ◌∷◌, []};
 ghost use Rattle.graph_model.specs.Jobs.{IsWellFormedJob};
 ghost use Rattle.partitioner.specs.Splits.{split_for};
 ghost use Rattle.ports.specs.Devices.{SameCounts};
@@ -11,7 +11,7 @@ ghost use Rattle.round_steps.specs.Going.{IsStore};
 ghost use Rattle.round_loop.specs.Keeping.{Moment, moment};
 ghost use Rattle.round_loop.specs.Conditions.{IsRun, MOST_ROUNDS};
 ghost use Rattle.round_loop.specs.Coming.{IsAt};
-ghost use Rattle.round_loop.specs.Run.{HasRun};
+ghost use Rattle.round_loop.specs.Run.{HasRun, OnMade};
 
 use crate::course::{Progress, begin, go_on, is_last, is_to_go_on};
 use crate::fault::RoundFault;
@@ -79,7 +79,7 @@ pub fn run_rounds<R: Threads + Sync, P: VertexProgram, D: Disk, G: Gate + Sync>(
     requires beat { beat.old ≤ 2 ^ 63 + 10 }
     ensures table { seat.new.table ≡ seat.old.table }
     ensures run { HasRun D.state D.M.faults (P.rules program.now) job.now start index.now (moment store.old meters.old.items seat.old.view beat.old) (moment store.new meters.new.items seat.new.view beat.new) result }
-    ensures calm { OnOk result (SameCounts D.M.faults meters.old.items meters.new.items) }
+    ensures calm { OnMade result (SameCounts D.M.faults meters.old.items meters.new.items) }
 {
     let split = Split::of_job(job);
     let mut crews = match Crews::new(alloc, job, &split) {
@@ -121,7 +121,7 @@ fn run_from<R: Threads + Sync, P: VertexProgram, D: Disk, G: Gate + Sync>(
     ensures table { seat.new.table ≡ seat.old.table }
     ensures room { vec_capacity meters.old ≤ vec_capacity meters.new }
     ensures run { HasRun D.state D.M.faults (P.rules run.now.program.now) run.now.job.now start run.now.index.now (moment store.old meters.old.items seat.old.view beat.old) (moment store.new meters.new.items seat.new.view beat.new) result }
-    ensures calm { OnOk result (SameCounts D.M.faults meters.old.items meters.new.items) }
+    ensures calm { OnMade result (SameCounts D.M.faults meters.old.items meters.new.items) }
 {
     match start {
         Start::Fresh => match begin(run, crews, store, meters, seat, beat) {
@@ -161,7 +161,7 @@ fn run_on<R: Threads + Sync, P: VertexProgram, D: Disk, G: Gate + Sync>(
     ensures run { (from : Moment D D.M) → from.beat ≤ 2 ^ 63 + 10 → IsAt D.state D.M.faults (P.rules run.now.program.now) run.now.job.now start run.now.index.now begun from (moment store.old meters.old.items seat.old.view beat.old)
         → HasRun D.state D.M.faults (P.rules run.now.program.now) run.now.job.now start run.now.index.now from (moment store.new meters.new.items seat.new.view beat.new) result }
     ensures calm { (from : Moment D D.M) → IsAt D.state D.M.faults (P.rules run.now.program.now) run.now.job.now start run.now.index.now begun from (moment store.old meters.old.items seat.old.view beat.old)
-        → OnOk result (SameCounts D.M.faults from.meters meters.new.items) }
+        → OnMade result (SameCounts D.M.faults from.meters meters.new.items) }
 {
     let rounds = run.program.rounds();
     let mut so_far = begun;

@@ -2,6 +2,7 @@
 use Rattle.std.proofs.Common.{◌≡◌, Bool, true, false, if◌then◌else◌, refl, sym, ap, ◌∙◌}
 use Rattle.round_loop.specs.Keeping.{Moment, moment}
 use Rattle.partitioner.proofs.Made.{split_is}
+use Rattle.round_loop.proofs.Ending.{no_limit}
 use Rattle.round_loop.proofs.Steps.{begins_at, begins_not}
 use Rattle.round_loop.proofs.course.begin.Goals as goal
 
@@ -49,3 +50,6 @@ returns-in-Err-clause-course g c =
     end.result.outcome end.result.changed end.result.claims end.result.admitted
     (record { store = end.ensures.store; keeps = end.ensures.keeps; meters = end.ensures.meters; beat = end.ensures.beat; through = end.ensures.through; few = end.ensures.few; cause = end.ensures.cause; calm = end.ensures.calm; sound = end.ensures.sound; damaged = end.ensures.damaged; epochs = end.ensures.epochs; made = end.ensures.round })
     c.in-Err.fault c.in-Err.ensures.fault
+
+pub returns-in-Err-clause-limit : goal.returns-in-Err-clause-limit
+returns-in-Err-clause-limit g c = λ is. no_limit c.make_first-end.result.outcome c.in-Err.fault c.in-Err.ensures.fault cc

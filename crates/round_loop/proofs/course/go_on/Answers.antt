@@ -4,6 +4,7 @@ use Rattle.round_loop.specs.Starts.{first_sent}
 use Rattle.round_loop.specs.Opening.{sends_changed}
 use Rattle.round_loop.specs.Keeping.{Moment, moment}
 use Rattle.partitioner.proofs.Made.{split_is}
+use Rattle.round_loop.proofs.Ending.{no_limit}
 use Rattle.round_loop.proofs.Steps.{few_claims, goes_to, goes_not}
 use Rattle.round_loop.proofs.course.go_on.Goals.{then-has_sent, else-has_sent}
 use Rattle.round_loop.proofs.course.go_on.Goals as goal
@@ -64,3 +65,6 @@ returns-in-Err-clause-course g c = λ from at.
     c.if-has_sent.changed_only only end.result.outcome end.result.changed end.result.claims end.result.admitted
     (record { store = end.ensures.store; keeps = end.ensures.keeps; meters = end.ensures.meters; beat = end.ensures.beat; through = end.ensures.through; few = end.ensures.few; cause = end.ensures.cause; calm = end.ensures.calm; sound = end.ensures.sound; damaged = end.ensures.damaged; epochs = end.ensures.epochs; made = end.ensures.round })
     from at c.in-Err.fault c.in-Err.ensures.fault
+
+pub returns-in-Err-clause-limit : goal.returns-in-Err-clause-limit
+returns-in-Err-clause-limit g c = λ is. no_limit c.make_round-end.result.outcome c.in-Err.fault c.in-Err.ensures.fault cc

@@ -1,5 +1,6 @@
 -- From round 0, or from the round that was found.
 use Rattle.std.proofs.Common.{◌≡◌, length, [], refl, sym, subst, arith}
+use Rattle.ports.specs.Devices.{SameCounts}
 use Rattle.round_steps.specs.Going.{IsStore}
 use Rattle.round_loop.specs.declared.run.Start.{Start}
 use Rattle.partitioner.specs.Splits.{split_for}
@@ -8,6 +9,7 @@ use Rattle.round_loop.specs.Coming.{IsAt}
 use Rattle.round_loop.specs.Run.{HasRun}
 use Rattle.partitioner.proofs.Made.{split_is}
 use Rattle.round_loop.proofs.Beginning.{found}
+use Rattle.round_loop.proofs.Ending.{not_made}
 use Rattle.round_loop.proofs.run.run_from.Goals as goal
 
 pub run_on-requires-clause-at : goal.run_on-requires-clause-at
@@ -83,3 +85,6 @@ returns-in-At-clause-calm g c =
       come = found g.D.Disk.state g.D.M.Meter.faults disks.lawful (g.P.VertexProgram.rules run.program.now) run.job.now run.index.now from ready c.in-At.round c.in-At.changed c.requires.between;
       epochs_are = refl;
     })
+
+pub returns-in-Err-clause-calm : goal.returns-in-Err-clause-calm
+returns-in-Err-clause-calm g c = not_made (SameCounts g.D.M.Meter.faults c.args.meters.now.items c.begin.new.meters.items) c.in-Err.fault (λ is. c.in-Err.ensures.limit cc)

@@ -1,11 +1,12 @@
 -- Round by round, from wherever the run began.
 use Rattle.std.proofs.Common.{◌≡◌, ◌+◌, ◌<◌, sym, subst, ◌∙◌, arith}
+use Rattle.ports.specs.Devices.{SameCounts}
 use Rattle.round_steps.specs.Going.{IsStore}
 use Rattle.round_loop.specs.Keeping.{Moment, moment}
 use Rattle.round_loop.specs.Conditions.{MOST_ROUNDS}
 use Rattle.round_loop.specs.Coming.{GoesOn, bound}
 use Rattle.partitioner.proofs.Made.{split_is}
-use Rattle.round_loop.proofs.Ending.{ends_at, ends_at_limit}
+use Rattle.round_loop.proofs.Ending.{not_made, ends_at, ends_at_limit}
 use Rattle.round_loop.proofs.Steps.{small_round, few_so_far, below_bound}
 use Rattle.round_loop.proofs.run.run_on.Goals as goal
 
@@ -78,6 +79,12 @@ returns-clause-run g c = λ from small begun.
     let at = c.rounds.invariant.at from begun in
     ends_at g.D.Disk.state g.D.M.Meter.faults rules c.args.run.now.job.now c.args.start c.args.run.now.index.now (Unit {0}) so_far.round so_far.changed so_far.claims so_far.admitted from new at.epochs at.come tt
     (c.is_to_go_on.ensures.ends rules (sym c.rounds-rounds.ensures) c.rounds-test.false) (λ open_ended. c.is_last.ensures.last c.if-not-is_last.false (c.rounds-rounds.ensures ∙ open_ended))
+
+pub returns-in-Err-clause-calm : goal.returns-in-Err-clause-calm
+returns-in-Err-clause-calm g c = λ from begun. not_made (SameCounts g.D.M.Meter.faults from.meters c.go_on.new.meters.items) c.in-Err.fault (λ is. c.in-Err.ensures.limit cc)
+
+pub returns-then-not-is_last-clause-calm : goal.returns-then-not-is_last-clause-calm
+returns-then-not-is_last-clause-calm g c = λ from begun. ((c.rounds.invariant.at from begun).come.calm tt).0
 
 pub returns-clause-calm : goal.returns-clause-calm
 returns-clause-calm g c = λ from begun. ((c.rounds.invariant.at from begun).come.calm tt).0

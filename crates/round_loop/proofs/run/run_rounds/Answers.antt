@@ -1,9 +1,9 @@
 -- The main meter is taken out and put back in its place.
-use Rattle.std.proofs.Common.{◌++◌, ◌∷◌, [], List, OnOk, sym, subst}
+use Rattle.std.proofs.Common.{◌++◌, ◌∷◌, [], List, sym, subst}
 use Rattle.ports.specs.Devices.{SameCounts}
 use Rattle.round_steps.specs.Going.{IsStore}
 use Rattle.round_loop.specs.Keeping.{moment}
-use Rattle.round_loop.specs.Run.{HasRun}
+use Rattle.round_loop.specs.Run.{HasRun, OnMade}
 use Rattle.partitioner.proofs.Made.{split_is}
 use Rattle.round_loop.proofs.Ending.{not_begun, run_with, calm_with}
 use Rattle.round_loop.proofs.run.run_rounds.Goals as goal
@@ -35,7 +35,7 @@ returns-clause-calm g c =
     let own = c.take_last-own.result in
     let olds : List g.row.D-M.Denot = c.take_last-own.new.list.items in
     let news : List g.row.D-M.Denot = end.new.meters.items in
-    let calm : OnOk end.result (SameCounts g.D.M.Meter.faults (olds ++ own ∷ []) (news ++ own ∷ []))
+    let calm : OnMade end.result (SameCounts g.D.M.Meter.faults (olds ++ own ∷ []) (news ++ own ∷ []))
     = calm_with g.D.Disk.state g.D.M.Meter.faults (g.P.VertexProgram.rules c.args.program.now) c.args.job.now c.args.start c.args.index.now c.args.store.now end.new.store olds news own c.args.seat.now.view end.new.seat.view c.args.beat.now end.new.beat end.result end.ensures.run end.ensures.calm in
-    subst (λ (xs : List g.row.D-M.Denot). OnOk end.result (SameCounts g.D.M.Meter.faults xs c.put_last.new.list.items)) (sym c.take_last-own.ensures.items)
-    (subst (λ (xs : List g.row.D-M.Denot). OnOk end.result (SameCounts g.D.M.Meter.faults (olds ++ own ∷ []) xs)) (sym c.put_last.ensures.items) calm)
+    subst (λ (xs : List g.row.D-M.Denot). OnMade end.result (SameCounts g.D.M.Meter.faults xs c.put_last.new.list.items)) (sym c.take_last-own.ensures.items)
+    (subst (λ (xs : List g.row.D-M.Denot). OnMade end.result (SameCounts g.D.M.Meter.faults (olds ++ own ∷ []) xs)) (sym c.put_last.ensures.items) calm)
