@@ -1,14 +1,6 @@
 //! What a worker does with a chunk.
 ghost use Rattle.std.specs.Prelude.{◌≡◌, ◌*◌, ◌<◌, ◌≤◌, true, false, Some, length, take};
-ghost use Rattle.ports.specs.Faults.{Rose};
 ghost use Rattle.graph_model.specs.Programs.{plus as capped_sum};
-ghost use Rattle.chunk_object.specs.Epochs.{cursor_of};
-ghost use Rattle.chunk_object.specs.History.{opened_len};
-ghost use Rattle.chunk_cursor.specs.View.{knows, MayClaim};
-ghost use Rattle.chunk_model.specs.ChunkBytes.{chunk_width};
-ghost use Rattle.partitioner.specs.Splits.{IsSplit};
-ghost use Rattle.chunk_file.specs.Places.{places_of};
-ghost use Rattle.store_reader.specs.Serving.{told_at, place_at, AddsClaim, HasServed, OnServed, HasDevices, ReadsAt, RefusesAt};
 ghost use Rattle.phase_model.specs.Sums.{counts_of};
 ghost use Rattle.replica_merge.specs.Accumulators.{split_of, begun_of, sums_of};
 ghost use Rattle.gather_phase.specs.Summing.{AreWithin, ComeFrom, HasSummed};
@@ -18,13 +10,11 @@ ghost use Rattle.gather_phase.specs.Acting.{MayServeAt, HasServedAt};
 
 use crate::desk::{GatherContext, GatherDesk};
 use crate::sums::{count_edges, fold_updates};
-use chunk_cursor::CursorSeat;
-use chunk_file::Record;
 use gather_laws::VertexProgram;
 use graph_model::{Edge, Update};
 use ports::{Disk, Gate};
 use replica_merge::Replicas;
-use store_reader::{Outcome, Part, Served, Serving, serve};
+use store_reader::{Outcome, Part, Served, read_records};
 use worker_duty::Step;
 
 /// Claims a chunk of updates once, and takes its updates into the sums of its partition.
@@ -121,41 +111,6 @@ pub(crate) fn serve_edges<P: VertexProgram, D: Disk, G: Gate>(
             Step::Stopped
         }
     }
-}
-
-/// Claims a chunk once, and reads its records to the front of `into`.
-fn read_records<R: Record, D: Disk>(
-    serving: &Serving<D>,
-    meter: &mut D::M,
-    seat: &mut CursorSeat,
-    engine: u32,
-    partition: u32,
-    bytes: &mut Vec<u8>,
-    into: &mut Vec<R>,
-) -> Served
-    requires split { IsSplit serving.now.split.now }
-    requires engine { engine < 8 }
-    requires partition { partition < serving.now.split.now.parts }
-    requires devices { HasDevices serving.now.shelf engine (places_of serving.now.index.now engine partition) }
-    requires table { seat.old.table ≡ serving.now.table.now }
-    requires once { MayClaim seat.old.view (cursor_of engine partition) }
-    requires len { opened_len (cursor_of engine partition) (knows seat.old.view) ≡ length (places_of serving.now.index.now engine partition) }
-    requires few { length into.old.items ≤ 65536 }
-    requires room { chunk_width (R.layout serving.now.job.now.format).width (length into.old.items) ≤ length bytes.old.items }
-    ensures rooms { (length bytes.new.items ≡ length bytes.old.items) × (length into.new.items ≡ length into.old.items) }
-    ensures table { seat.new.table ≡ seat.old.table }
-    ensures later { D.M.faults meter.old ≤ D.M.faults meter.new }
-    ensures calm { OnServed result (D.M.faults meter.new ≡ D.M.faults meter.old) }
-    ensures served { HasServed
-        (AddsClaim seat.old.view seat.new.view (cursor_of engine partition))
-        (λ t count. ReadsAt (R.layout serving.now.job.now.format) serving.now.split.now partition (place_at serving.now.index.now engine partition t)
-        (told_at D.state serving.now.shelf engine (place_at serving.now.index.now engine partition t).lane) count into.new.items)
-        (Rose (D.M.faults meter.old) (D.M.faults meter.new))
-        (λ t at. RefusesAt (R.layout serving.now.job.now.format) serving.now.split.now partition (place_at serving.now.index.now engine partition t)
-        (told_at D.state serving.now.shelf engine (place_at serving.now.index.now engine partition t).lane) (length into.old.items) at)
-        result }
-{
-    serve(serving, meter, seat, engine, partition, bytes, into)
 }
 
 /// Begins the partition, where none is begun.

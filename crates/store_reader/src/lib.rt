@@ -15,5 +15,5 @@ mod store;
 mod tests;
 
 pub use reading::{all_open, read_set, read_values, slot_head};
-pub use serving::{Served, Serving, Shelf, serve};
+pub use serving::{Served, Serving, Shelf, read_records, serve};
 pub use store::{Outcome, Part, SlotHead, Store};

@@ -131,3 +131,38 @@ pub fn serve<R: Record, D: Disk>(
         Err(ChunkFault::Memory) => Served::DiskFault,
     }
 }
+
+/// Claims a chunk once, and reads its records to the front of a buffer of at most 65,536.
+pub fn read_records<R: Record, D: Disk>(
+    serving: &Serving<D>,
+    meter: &mut D::M,
+    seat: &mut CursorSeat,
+    engine: u32,
+    partition: u32,
+    bytes: &mut Vec<u8>,
+    into: &mut Vec<R>,
+) -> Served
+    requires split { IsSplit serving.now.split.now }
+    requires engine { engine < 8 }
+    requires partition { partition < serving.now.split.now.parts }
+    requires devices { HasDevices serving.now.shelf engine (places_of serving.now.index.now engine partition) }
+    requires table { seat.old.table ≡ serving.now.table.now }
+    requires once { MayClaim seat.old.view (cursor_of engine partition) }
+    requires len { opened_len (cursor_of engine partition) (knows seat.old.view) ≡ length (places_of serving.now.index.now engine partition) }
+    requires few { length into.old.items ≤ 65536 }
+    requires room { chunk_width (R.layout serving.now.job.now.format).width (length into.old.items) ≤ length bytes.old.items }
+    ensures rooms { (length bytes.new.items ≡ length bytes.old.items) × (length into.new.items ≡ length into.old.items) }
+    ensures table { seat.new.table ≡ seat.old.table }
+    ensures later { D.M.faults meter.old ≤ D.M.faults meter.new }
+    ensures calm { OnServed result (D.M.faults meter.new ≡ D.M.faults meter.old) }
+    ensures served { HasServed
+        (AddsClaim seat.old.view seat.new.view (cursor_of engine partition))
+        (λ t count. ReadsAt (R.layout serving.now.job.now.format) serving.now.split.now partition (place_at serving.now.index.now engine partition t)
+        (told_at D.state serving.now.shelf engine (place_at serving.now.index.now engine partition t).lane) count into.new.items)
+        (Rose (D.M.faults meter.old) (D.M.faults meter.new))
+        (λ t at. RefusesAt (R.layout serving.now.job.now.format) serving.now.split.now partition (place_at serving.now.index.now engine partition t)
+        (told_at D.state serving.now.shelf engine (place_at serving.now.index.now engine partition t).lane) (length into.old.items) at)
+        result }
+{
+    serve(serving, meter, seat, engine, partition, bytes, into)
+}

@@ -22,15 +22,15 @@ returns-in-Chunk g c =
     let few : c.args.context.now.serving.job.now.chunk < 2 ^ 32 = omega (arith, job.chunk.1) in
     let there = taken_of (lens_of c.args.context.now.serving.index.now) c.args.desk.now.seat.view (cursor_of c.args.engine c.args.partition) served.0 c.requires.may.ready served.1.given in
     let cursor = cursor_of c.args.engine c.args.partition in
-    let long : length c.read_edges-served.new.into.items ≡ c.args.context.now.serving.job.now.chunk = c.in-Chunk.ensures.rooms.1 ∙ c.requires.may.at.fit.room.edges in
+    let long : length c.read_records-served.new.into.items ≡ c.args.context.now.serving.job.now.chunk = c.in-Chunk.ensures.rooms.1 ∙ c.requires.may.at.fit.room.edges in
     let seat = c.scatter_chunk.ensures.seat in
     let call = ap (λ s. s.view) seat ∙ served.1.call in
     let has = same_sent g.P.VertexProgram.rules g.D.Disk.state c.args.context.now c.args.desk.now _ _ refl refl refl refl c.requires.may.at.has in
-    let edges : List Edge = take c.in-Chunk.count c.read_edges-served.new.into.items in
+    let edges : List Edge = take c.in-Chunk.count c.read_records-served.new.into.items in
     let grown = taken_here-more cursor served.0 c.args.desk.now.seat.view c.scatter_chunk.new.desk.seat.view call in
     let reads : (records : ℕ → ℕ → List Edge) → HasRecords g.D.Disk.state (edge_layout c.args.context.now.serving.job.now.format) c.args.context.now.serving records → records cursor served.0 ≡ edges =
-    λ records describes. reads_records g.D.Disk.state c.args.context.now.serving c.args.engine c.args.partition served.0 c.requires.may.engine_is below there (edge_layout c.args.context.now.serving.job.now.format) (edge_layout_is c.args.context.now.serving.job.now.format) tiny few records c.in-Chunk.count c.read_edges-served.new.into.items describes long served.2 in
-    let found = found_chunk g.D.Disk.state c.args.context.now.serving c.args.engine c.args.partition served.0 c.requires.may.engine_is below there (edge_layout c.args.context.now.serving.job.now.format) c.in-Chunk.count c.read_edges-served.new.into.items long served.2 in
+    λ records describes. reads_records g.D.Disk.state c.args.context.now.serving c.args.engine c.args.partition served.0 c.requires.may.engine_is below there (edge_layout c.args.context.now.serving.job.now.format) (edge_layout_is c.args.context.now.serving.job.now.format) tiny few records c.in-Chunk.count c.read_records-served.new.into.items describes long served.2 in
+    let found = found_chunk g.D.Disk.state c.args.context.now.serving c.args.engine c.args.partition served.0 c.requires.may.engine_is below there (edge_layout c.args.context.now.serving.job.now.format) c.in-Chunk.count c.read_records-served.new.into.items long served.2 in
     record {
       goes_on = goes_on_then g.D.Disk.state g.D.M.Meter.faults c.args.context.now.beat.now c.args.desk.now _ c.scatter_chunk.new.desk
           (record { worker = refl; room = λ job is. record { outgoing = is.outgoing; of_job = is.of_job; size = is.size; edges = c.in-Chunk.ensures.rooms.1 ∙ is.edges; bytes = c.in-Chunk.ensures.rooms.0 ∙ is.bytes; now = is.now; before = is.before; changed = is.changed }; reads = c.in-Chunk.ensures.later; lanes = stays g.D.Disk.state c.args.context.now.beat.now c.args.desk.now.lanes.items; caused = λ is. inl is; calm = λ is. (is, c.in-Chunk.ensures.calm, refl) })
@@ -48,7 +48,7 @@ returns-in-Exhausted g c =
       goes_on = record { worker = refl; room = λ job is. record { outgoing = is.outgoing; of_job = is.of_job; size = is.size; edges = c.in-Exhausted.ensures.rooms.1 ∙ is.edges; bytes = c.in-Exhausted.ensures.rooms.0 ∙ is.bytes; now = is.now; before = is.before; changed = is.changed }; reads = c.in-Exhausted.ensures.later; lanes = stays g.D.Disk.state c.args.context.now.beat.now c.args.desk.now.lanes.items; caused = λ is. inl is; calm = λ is. (is, c.in-Exhausted.ensures.calm, refl) };
       table_is = c.in-Exhausted.ensures.table;
       call = c.in-Exhausted.ensures.served.call;
-      at = λ ne. subst (DeskHolds g.P.VertexProgram.rules g.D.Disk.state c.args.context.now _) (sym (taken_here-none (cursor_of c.args.engine c.args.partition) c.args.desk.now.seat.view c.read_edges-served.new.seat.view c.in-Exhausted.ensures.served.call))
+      at = λ ne. subst (DeskHolds g.P.VertexProgram.rules g.D.Disk.state c.args.context.now _) (sym (taken_here-none (cursor_of c.args.engine c.args.partition) c.args.desk.now.seat.view c.read_records-served.new.seat.view c.in-Exhausted.ensures.served.call))
           (record {
             fit = record { room = record { outgoing = at.fit.room.outgoing; of_job = at.fit.room.of_job; size = at.fit.room.size; edges = c.in-Exhausted.ensures.rooms.1 ∙ at.fit.room.edges; bytes = c.in-Exhausted.ensures.rooms.0 ∙ at.fit.room.bytes; now = at.fit.room.now; before = at.fit.room.before; changed = at.fit.room.changed }; loaded = at.fit.loaded; none_full = at.fit.none_full; ready = at.fit.ready; within = at.fit.within; done = at.fit.done };
             has = same_sent g.P.VertexProgram.rules g.D.Disk.state c.args.context.now c.args.desk.now _ _ refl refl refl refl at.has;
@@ -76,7 +76,7 @@ returns-in-DiskFault g c =
         within = at.fit.within;
         few =
             let most = places_of_chunks g.P.VertexProgram.rules g.D.Disk.state c.args.context.now c.args.desk.now _ job.chunk.0 at.has in
-            let more = ap length (taken_here-more (cursor_of c.args.engine c.args.partition) served.0 c.args.desk.now.seat.view c.read_edges-served.new.seat.view served.1.call) in
+            let more = ap length (taken_here-more (cursor_of c.args.engine c.args.partition) served.0 c.args.desk.now.seat.view c.read_records-served.new.seat.view served.1.call) in
             let one = length-append (taken_by_seat c.args.desk.now.seat.view) ((cursor_of c.args.engine c.args.partition, served.0) ∷ []) in
             omega (arith, most, more, one);
       };
@@ -108,7 +108,7 @@ returns-in-Damaged g c =
         within = at.fit.within;
         few =
             let most = places_of_chunks g.P.VertexProgram.rules g.D.Disk.state c.args.context.now c.args.desk.now _ job.chunk.0 at.has in
-            let more = ap length (taken_here-more (cursor_of c.args.engine c.args.partition) served.0 c.args.desk.now.seat.view c.read_edges-served.new.seat.view served.1.call) in
+            let more = ap length (taken_here-more (cursor_of c.args.engine c.args.partition) served.0 c.args.desk.now.seat.view c.read_records-served.new.seat.view served.1.call) in
             let one = length-append (taken_by_seat c.args.desk.now.seat.view) ((cursor_of c.args.engine c.args.partition, served.0) ∷ []) in
             omega (arith, most, more, one);
       };
