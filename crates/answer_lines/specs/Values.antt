@@ -1,11 +1,11 @@
--- The values devices of a store, and the values of all vertices that stand in a slot of them.
-use Rattle.std.specs.Prelude.{◌≡◌, ℕ, ◌<◌, Option, Some, List, length, take, drop, slice_get, slice_index_or, option_and_then}
+-- The values of all vertices that stand in a slot of the values devices of a store.
+use Rattle.std.specs.Prelude.{◌≡◌, ℕ, ◌<◌, Option, Some, List, length, take, drop, slice_get, option_and_then}
 use Rattle.graph_model.specs.declared.value.Value.{Value}
 use Rattle.graph_model.specs.Partitions.{first_vertex, own_vertices}
 use Rattle.gather_laws.specs.Laws.{HaveRoom}
 use Rattle.ports.specs.Disk.{DiskState}
 use Rattle.partitioner.specs.declared.split.Split.{Split}
-use Rattle.store_model.specs.Slots.{device_size, slot_values, values_bytes}
+use Rattle.store_model.specs.Slots.{slot_values, values_bytes}
 use Rattle.store_model.specs.Kept.{values_of}
 use Rattle.store_reader.specs.Reading.{own_in, len_in}
 
@@ -14,11 +14,6 @@ abbrev pub values_in : Split → (p : ℕ) → List Value → List Value
 values_in split p all = take (len_in split p) (drop (first_vertex split.vertices split.parts p) all)
 
 module _ {X : Type 0} (state : X → DiskState) (split : Split) (devices : List X) where
-  -- one values device for each engine, of the exact size for its vertices
-  pub record AreValuesDevices : Type 0 where
-    pub many : length devices ≡ split.engines
-    pub exact : (e : ℕ) (d : X) → e < length devices → (state (slice_index_or devices e d)).size ≡ device_size (own_in split e)
-
   -- what the device of an engine tells
   abbrev pub told_by : (e : ℕ) → Option (List ℕ)
   told_by e = option_and_then (λ disk. (state disk).bytes) (slice_get devices e)

@@ -5,10 +5,10 @@ ghost use Rattle.partitioner.specs.Splits.{IsSplit};
 ghost use Rattle.ports.specs.Faults.{HasCause};
 ghost use Rattle.ports.specs.Sink.{AppendsFront};
 ghost use Rattle.ports.specs.Told.{AsTold};
-ghost use Rattle.store_reader.specs.Reading.{len_in};
+ghost use Rattle.store_reader.specs.Reading.{AreValueDevices, len_in};
 ghost use Rattle.value_text.specs.Shown.{shows_side};
 ghost use Rattle.answer_lines.specs.Lines.{lines_from, Passes};
-ghost use Rattle.answer_lines.specs.Values.{AreValuesDevices, IsSet};
+ghost use Rattle.answer_lines.specs.Values.{IsSet};
 ghost use Rattle.answer_lines.specs.Room.{IsRoom};
 ghost use Rattle.answer_lines.specs.Printing.{PrintsAll, PrintsFront, PrintsFirst, HasPrintCause};
 
@@ -42,7 +42,7 @@ pub fn print_answer<K: Sink, D: Disk>(
     out: &mut K,
 ) -> Result<(), PrintFault>
     requires split { IsSplit split.now }
-    requires devices { AreValuesDevices D.state split.now values.now }
+    requires devices { AreValueDevices D.state split.now values.now }
     requires slot { slot < 2 }
     requires room { IsRoom split.now room.old }
     ensures whole { OnOk result (PrintsAll D.state split.now values.now slot (shows_side shown) (K.written out.old) (K.written out.new)) }
@@ -76,7 +76,7 @@ fn print_partition<K: Sink, D: Disk>(
 ) -> Result<(), PrintFault>
     requires split { IsSplit split.now }
     requires partition { partition < split.now.parts }
-    requires devices { AreValuesDevices D.state split.now values.now }
+    requires devices { AreValueDevices D.state split.now values.now }
     requires slot { slot < 2 }
     requires room { IsRoom split.now room.old }
     ensures first { OnOk result ((start : Option (List ℕ))
@@ -119,7 +119,7 @@ fn read_values<D: Disk>(
     into: &mut [Value],
 ) -> Result<(), Failed>
     requires split { IsSplit split.now }
-    requires devices { AreValuesDevices D.state split.now devices.now }
+    requires devices { AreValueDevices D.state split.now devices.now }
     requires slot { slot < 2 }
     requires partition { partition < split.now.parts }
     requires bytes { 16 * len_in split.now partition ≤ length bytes.old }

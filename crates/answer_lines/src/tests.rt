@@ -3,8 +3,7 @@ ghost use Rattle.std.specs.Prelude.{◌≡◌, ◌<◌, ◌≤◌};
 ghost use Rattle.mem_devices.specs.MemDisk.{disk_state};
 ghost use Rattle.partitioner.specs.Splits.{IsSplit};
 ghost use Rattle.store_model.specs.Slots.{device_size};
-ghost use Rattle.store_reader.specs.Reading.{own_in};
-ghost use Rattle.answer_lines.specs.Values.{AreValuesDevices};
+ghost use Rattle.store_reader.specs.Reading.{AreValueDevices, own_in};
 
 use super::*;
 use mem_devices::{MemDisk, MemMeter, MemSink};
@@ -52,7 +51,7 @@ fn expect_size(rt: &impl Abort, split: &Split, engine: u32, device: &MemDisk)
 /// One device for each engine, of the exact size.
 fn expect_sizes(rt: &impl Abort, split: &Split, devices: &[MemDisk])
     requires { IsSplit split.now }
-    ensures { AreValuesDevices disk_state split.now devices.now }
+    ensures { AreValueDevices disk_state split.now devices.now }
 {
     assert!(rt; devices.len() == split.engines as usize);
     for engine in 0..split.engines {

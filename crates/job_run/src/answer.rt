@@ -3,7 +3,7 @@ ghost use Rattle.std.specs.Prelude.{◌≡◌, ◌+◌, Ok, vec_len};
 ghost use Rattle.graph_model.specs.Programs.{shows_side};
 ghost use Rattle.partitioner.specs.Splits.{IsSplit};
 ghost use Rattle.value_text.specs.Shown.{shows_side as shows_side_of};
-ghost use Rattle.answer_lines.specs.Values.{AreValuesDevices};
+ghost use Rattle.store_reader.specs.Reading.{AreValueDevices};
 ghost use Rattle.answer_lines.specs.Room.{IsRoom};
 ghost use Rattle.ports.specs.Devices.{MetersGoOn};
 ghost use Rattle.job_run.specs.Finish.{rounds_of};
@@ -28,7 +28,7 @@ pub(crate) fn answer<K: Sink, D: Disk>(
     out: &mut K,
 ) -> Finish
     requires split { IsSplit split.now }
-    requires devices { AreValuesDevices D.state split.now values.now }
+    requires devices { AreValueDevices D.state split.now values.now }
     requires meters { vec_len meters.old ≡ split.now.engines + 1 }
     requires room { IsRoom split.now room.old }
     ensures done { rounds_of result ≡ Ok done }
