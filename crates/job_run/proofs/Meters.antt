@@ -1,5 +1,5 @@
 -- Meters of which one is read through, and what their counts say of a fault of printing.
-use Rattle.std.proofs.Common.{◌≡◌, ℕ, ◌<◌, List, length, get_or, slice_set, sym, ◌∙◌, subst}
+use Rattle.std.proofs.Common.{◌≡◌, ℕ, ◌<◌, List, length, get_or, slice_set, Err, sym, ◌∙◌, subst}
 use Rattle.std.proofs.lemmas.List.{get_or_default, get_or-set_same}
 use Rattle.ports.specs.Faults.{Rose}
 use Rattle.ports.specs.Devices.{MetersGoOn, OneCountRose, SameCounts}
@@ -7,6 +7,7 @@ use Rattle.answer_lines.specs.declared.print.PrintFault.{PrintFault}
 use Rattle.answer_lines.specs.declared.print.PrintFault.TheVariants.{DiskFault}
 use Rattle.answer_lines.specs.Printing.{IsCaused as IsCausedPrinting}
 use Rattle.round_steps.proofs.Kept.{meter_rose_later}
+use Rattle.round_loop.proofs.Ending.{on_made_weaker}
 use Rattle.job_run.specs.declared.finish.Finish.{Finish}
 use Rattle.job_run.specs.declared.finish.Finish.TheVariants.{Answered, NotWritten, NotRead, Stopped}
 use Rattle.job_run.specs.Running.{IsCaused, HasFinishCause}
@@ -30,7 +31,7 @@ module _ {M : Type 0} (faults : M → ℕ) where
     caused_since (Answered done) caused = (caused.0 ∙ calm, caused.1)
     caused_since (NotWritten done) caused = caused
     caused_since (NotRead done) caused = meter_rose_later faults old mid new first caused
-    caused_since (Stopped fault) caused = caused
+    caused_since (Stopped fault) caused = (on_made_weaker (SameCounts faults mid new) (SameCounts faults old new) (Err fault) (λ still. still ∙ calm) caused.0, caused.1)
 
     -- the cause of a fault, counted from before meters have gone on
     pub cause_since : (finish : Finish) → HasFinishCause faults mid new writes writes' finish → HasFinishCause faults old new writes writes' finish

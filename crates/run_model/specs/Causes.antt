@@ -30,6 +30,11 @@ abbrev pub IsAnswered : Ending → Type 0
 IsAnswered (Answered report) = ⊤
 IsAnswered _ = ⊥
 
+-- **No failed call lies behind it**: nothing has interrupted the call, and no damage has ended it
+abbrev pub IsFaultless : Ending → Type 0
+IsFaultless (Damaged part engine place) = ⊥
+IsFaultless ending = is_interrupted ending ≡ false
+
 -- an ending comes, unless want of memory or a fault is met before it
 abbrev pub Comes : (due ending : Ending) → Type 0
 Comes due ending = (ending ≡ due) ⊎ (is_interrupted ending ≡ true)

@@ -10,7 +10,7 @@ use Rattle.endings.specs.declared.ending.Ending.{Ending}
 use Rattle.endings.specs.declared.ending.Ending.TheVariants.{Answered}
 use Rattle.run_model.specs.Telling.{CountsChunks}
 use Rattle.run_model.specs.Calls.{Call, OfText, OfTold, NoneFailed, IsBack}
-use Rattle.run_model.specs.Causes.{HasCause, IsExact, IsAnswered}
+use Rattle.run_model.specs.Causes.{HasCause, IsExact, IsAnswered, IsFaultless}
 use Rattle.run_model.specs.Printing.{HasPrinted}
 use Rattle.run_model.specs.Epochs.{HasGone, AreJobEpochs}
 use Rattle.run_model.specs.Standing.{StandsAfter}
@@ -21,14 +21,14 @@ abbrev pub MOST_BEATS : ℕ
 MOST_BEATS = 1000003
 
 module _ {D M : Type 0} (state : D → DiskState) (faults : M → ℕ) (job : Job) where
-  -- It ends with a cause, and as the text and the devices call for; where it has answered no call failed; it has printed
-  -- what that ending allows, and read all where it has answered; the seat went through the epochs of the job, each chunk
-  -- taken once; its report counts the chunks of each engine; all is in its place; and it is said what stands, then and
-  -- after a stop at any moment.
+  -- It ends with a cause, and as the text and the devices call for; unless it was interrupted, or met damage, no call
+  -- failed; it has printed what that ending allows, and read all where it has answered; the seat went through the epochs of
+  -- the job, each chunk taken once; its report counts the chunks of each engine; all is in its place; and it is said what
+  -- stands, then and after a stop at any moment.
   pub record IsRun (call : Call D M) (ending : Ending) : Type 0 where
     pub cause : HasCause state faults job call ending
     pub exact : IsExact state faults job call ending
-    pub calm : IsAnswered ending → NoneFailed state faults call
+    pub calm : IsFaultless ending → NoneFailed state faults call
     pub printed : HasPrinted state job call ending
     pub all_read : IsAnswered ending → OfText call.text (λ text. call.text_after ≡ Some [])
     pub epochs : List Epoch

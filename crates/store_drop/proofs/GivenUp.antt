@@ -14,6 +14,7 @@ use Rattle.round_loop.specs.Keeping.{AreLater, AreLaterRows}
 use Rattle.endings.specs.declared.ending.Ending.{Ending}
 use Rattle.endings.specs.declared.ending.Ending.TheVariants.{Dropped, DiskFault}
 use Rattle.run_model.specs.Calls.{Call, IsReady, AnyRose, AreStill, NoneFailed, IsBack}
+use Rattle.run_model.specs.Causes.{IsFaultless}
 use Rattle.store_drop.specs.Drops.{AllEmpty, HasDropCause, IsDrop}
 use Rattle.run_model.proofs.Going.{all_early}
 use Rattle.run_model.proofs.Untouched.{prints_none}
@@ -78,7 +79,7 @@ module _ {D M : Type 0} (state : D → DiskState) (faults : M → ℕ) (call : C
     beats = elim beat [ inl same ↦ (omega (arith, same), omega (arith, same)) | inr next ↦ (omega (arith, next), omega (arith, next)) ];
   }
 
-  pub is_drop : (ending : Ending) → HasDropCause state faults call ending → (ending ≡ Dropped → NoneFailed state faults call) → IsDrop state faults call engines ending
+  pub is_drop : (ending : Ending) → HasDropCause state faults call ending → (IsFaultless ending → NoneFailed state faults call) → IsDrop state faults call engines ending
   is_drop ending cause calm = record {
     cause = cause;
     calm = calm;
@@ -101,7 +102,7 @@ module _ {D M : Type 0} (state : D → DiskState) (faults : M → ℕ) (call : C
       ⊎ OneRose state call.before.store.values.items call.after.store.values.items
       ⊎ OneRowRose state call.before.store.lanes.items call.after.store.lanes.items
       ⊎ OneRose state call.before.store.spills.items call.after.store.spills.items → IsDrop state faults call engines DiskFault
-  not_dropped read among rose = is_drop DiskFault (any rose) (λ is. absurd (cc))
+  not_dropped read among rose = is_drop DiskFault (any rose) (λ faultless. absurd (cc))
     where
       any : read
           ⊎ OneRose state call.before.store.graphs.items call.after.store.graphs.items

@@ -8,6 +8,7 @@ use Rattle.store_model.specs.Kept.{IsUnprepared}
 use Rattle.endings.specs.declared.ending.Ending.{Ending}
 use Rattle.endings.specs.declared.ending.Ending.TheVariants.{Dropped, DiskFault, Memory}
 use Rattle.run_model.specs.Calls.{Call, AnyRose, NoneFailed, IsBack}
+use Rattle.run_model.specs.Causes.{IsFaultless}
 use Rattle.run_model.specs.Printing.{Prints}
 use Rattle.run_model.specs.Stops.{AtEachStop}
 
@@ -30,7 +31,7 @@ module _ {D M : Type 0} (state : D → DiskState) (faults : M → ℕ) (call : C
   -- device is empty, and no call failed. Nothing is read or printed, and all is in its place for a further call.
   pub record IsDrop (engines : ℕ) (ending : Ending) : Type 0 where
     pub cause : HasDropCause ending
-    pub calm : ending ≡ Dropped → NoneFailed state faults call
+    pub calm : IsFaultless ending → NoneFailed state faults call
     pub printed : Prints call.out call.out_after []
     pub no_writes : call.write_faults_after ≡ call.write_faults
     pub unread : call.text_after ≡ call.text

@@ -1,5 +1,5 @@
 -- A resume that made no round: the store was not recovered, or there was no memory.
-use Rattle.std.proofs.Common.{◌≡◌, ◌∙◌, inl, inr, ℕ, List, [], true, refl, sym, ap, subst, arith}
+use Rattle.std.proofs.Common.{◌≡◌, ◌≢◌, ◌∙◌, inl, inr, ℕ, List, [], true, refl, sym, ap, subst, arith}
 use Rattle.ports.specs.Disk.{DiskState, IsDisk}
 use Rattle.ports.specs.Devices.{MetersGoOn, AreDevices, AreRows, OneCountRose}
 use Rattle.graph_model.specs.declared.edge.Edge.{Edge}
@@ -21,8 +21,8 @@ use Rattle.store_rounds.proofs.Places.{same_stop}
 use Rattle.store_rounds.proofs.Stores.{whole_open}
 use Rattle.endings.specs.declared.ending.Ending.{Ending}
 use Rattle.endings.specs.declared.ending.Ending.TheVariants.{Memory, DiskFault}
-use Rattle.run_model.specs.Calls.{Call, IsReady, StoreGoesOn, IsBack}
-use Rattle.run_model.specs.Causes.{is_interrupted, IsAnswered, Comes}
+use Rattle.run_model.specs.Calls.{Call, IsReady, StoreGoesOn, NoneFailed, IsBack}
+use Rattle.run_model.specs.Causes.{is_interrupted, IsFaultless, Comes}
 use Rattle.run_model.specs.Printing.{Prints}
 use Rattle.run_model.specs.Epochs.{IsComplete, HasGone}
 use Rattle.run_model.specs.Runs.{MOST_BEATS}
@@ -41,13 +41,6 @@ not_complete (recover.EnginesDiffer held asked) complete = complete
 not_complete (recover.Damaged part engine place) complete = complete
 not_complete recover.DiskFault complete = complete
 not_complete recover.Memory complete = complete
-
-not_answered : (why : RecoverFault) → IsAnswered (refusal why) → ⊥
-not_answered recover.NotPrepared answered = answered
-not_answered (recover.EnginesDiffer held asked) answered = answered
-not_answered (recover.Damaged part engine place) answered = answered
-not_answered recover.DiskFault answered = answered
-not_answered recover.Memory answered = answered
 
 -- a cause, by a count that is one of several
 pub cause_among : (one several : Type 0) (IsFound : damage.Fault → Type 0) (why : RecoverFault) → (one → several) → HasRecoverCause one IsFound why → HasRecoverCause several IsFound why
@@ -98,14 +91,25 @@ module _ {D M : Type 0} (state : D → DiskState) (lawful : (d : D) → IsDisk (
   cause_of recover.DiskFault found = inr (inl found)
   cause_of recover.Memory found = tt
 
-  damage_of : (given : Job) (why : RecoverFault) → HasFound why → HasDamage state faults call given (refusal why)
-  damage_of given recover.NotPrepared found = tt
-  damage_of given (recover.EnginesDiffer held asked) found = tt
-  damage_of given (recover.Damaged Graph engine place) found = inl (record { untouched = same_store; fails = λ graphs values tell_graphs tell_values. (damage.GraphDamaged engine place, found graphs values tell_graphs tell_values, refl) })
-  damage_of given (recover.Damaged Values engine place) found = inl (record { untouched = same_store; fails = λ graphs values tell_graphs tell_values. (damage.ValuesDamaged engine place, found graphs values tell_graphs tell_values, refl) })
-  damage_of given (recover.Damaged Lane engine place) found = absurd found
-  damage_of given recover.DiskFault found = tt
-  damage_of given recover.Memory found = tt
+  -- no call failed, but where a fault of a device is told
+  abbrev pub IsCalm : RecoverFault → Type 0
+  IsCalm why = why ≢ recover.DiskFault → NoneFailed state faults call
+
+  calm_of : (why : RecoverFault) → IsCalm why → IsFaultless (refusal why) → NoneFailed state faults call
+  calm_of recover.NotPrepared calm faultless = calm (λ is. cc)
+  calm_of (recover.EnginesDiffer held asked) calm faultless = calm (λ is. cc)
+  calm_of (recover.Damaged part engine place) calm faultless = calm (λ is. cc)
+  calm_of recover.DiskFault calm faultless = absurd cc
+  calm_of recover.Memory calm faultless = calm (λ is. cc)
+
+  damage_of : (given : Job) (why : RecoverFault) → HasFound why → IsCalm why → HasDamage state faults call given (refusal why)
+  damage_of given recover.NotPrepared found calm = tt
+  damage_of given (recover.EnginesDiffer held asked) found calm = tt
+  damage_of given (recover.Damaged Graph engine place) found calm = inl (record { untouched = same_store; calm = calm (λ is. cc); fails = λ graphs values tell_graphs tell_values. (damage.GraphDamaged engine place, found graphs values tell_graphs tell_values, refl) })
+  damage_of given (recover.Damaged Values engine place) found calm = inl (record { untouched = same_store; calm = calm (λ is. cc); fails = λ graphs values tell_graphs tell_values. (damage.ValuesDamaged engine place, found graphs values tell_graphs tell_values, refl) })
+  damage_of given (recover.Damaged Lane engine place) found calm = absurd found
+  damage_of given recover.DiskFault found calm = tt
+  damage_of given recover.Memory found calm = tt
 
   -- the first check that fails is answered
   first_is : (ending : Ending) (found : damage.Fault) → ending ≡ told_as found → IsThere found → OfBytes state faults call (λ graphs values. (fault : damage.Fault) → HasFault graphs values fault → Comes (told_as fault) ending)
@@ -163,13 +167,13 @@ module _ {D M : Type 0} (state : D → DiskState) (lawful : (d : D) → IsDisk (
     well_of recover.Memory free = interrupted Memory (λ complete. complete) refl tt tt
 
   -- **The store was not recovered.**
-  pub refused_resume : (why : RecoverFault) → HasFound why
+  pub refused_resume : (why : RecoverFault) → HasFound why → IsCalm why
       → ((job : Job) (edges : List Edge) (graphs values : List (List ℕ)) → IsStorable job edges → StoreOf job edges graphs values → Tell state call.before.store.graphs.items graphs → Tell state call.before.store.values.items values → restart.HasCauseOfJob graphs why)
       → IsResume state faults call engines (refusal why)
-  refused_resume why found of_job = record {
+  refused_resume why found calm of_job = record {
     cause = cause_of why found;
     exact = exact_of why found;
-    calm = λ answered. absurd (not_answered why answered);
+    calm = calm_of why calm;
     printed = printed_of why;
     unread = unread;
     no_reads = no_reads;
@@ -177,7 +181,7 @@ module _ {D M : Type 0} (state : D → DiskState) (lawful : (d : D) → IsDisk (
     job = some_job;
     gone = gone some_job (refusal why) (not_complete why);
     limited = λ limit is. absurd (not_complete why (subst IsComplete (sym is) tt));
-    damaged = damage_of some_job why found;
+    damaged = damage_of some_job why found calm;
     back = back;
     graphs = ap (λ (store : Store D M). store.graphs) same_store;
     refused = refused_of why;

@@ -27,6 +27,7 @@ use Rattle.restart.specs.Recovering.{job_in, index_in, IsRecovered}
 use Rattle.restart.specs.Resuming.{Resumes}
 use Rattle.restart.specs.Storable.{IsStorable}
 use Rattle.restart.proofs.OneFault.{recovered_has_none}
+use Rattle.round_steps.specs.Going.{NoDeviceRose}
 use Rattle.round_steps.specs.Standing.{HasEdges}
 use Rattle.round_steps.proofs.Kept.{meters_then, meter_rose_later}
 use Rattle.round_loop.specs.declared.run.Start.{Start}
@@ -54,8 +55,8 @@ use Rattle.endings.specs.declared.ending.Report.{Report}
 use Rattle.endings.specs.declared.ending.Ending.{Ending}
 use Rattle.endings.specs.declared.ending.Ending.TheVariants.{Answered, WriteFault, RoundLimit, Memory}
 use Rattle.run_model.specs.Telling.{ending_of, report_of}
-use Rattle.run_model.specs.Calls.{Call, IsReady, NoneFailed, IsBack}
-use Rattle.run_model.specs.Causes.{is_interrupted, IsAnswered, Comes}
+use Rattle.run_model.specs.Calls.{Call, IsReady, AreStill, NoneFailed, IsBack}
+use Rattle.run_model.specs.Causes.{is_interrupted, IsAnswered, IsFaultless, Comes}
 use Rattle.store_rounds.specs.Printed.{AnswerPrinted, FrontPrinted}
 use Rattle.run_model.specs.Epochs.{HasGone, AreJobEpochs, IsReportOf}
 use Rattle.run_model.specs.Standing.{IsStored}
@@ -65,7 +66,7 @@ use Rattle.store_resume.specs.Resumes.{OfBytes, AreSettled, HasResumeCause, HasD
 use Rattle.run_model.proofs.Going.{devices_on, store_same, store_run, some_rose_later}
 use Rattle.run_model.proofs.Untouched.{prints_none}
 use Rattle.run_model.proofs.Counted.{same_report, same_limit, counts_of_finish}
-use Rattle.store_resume.specs.Going.{GoesOn}
+use Rattle.store_resume.specs.Going.{IsNotBegun, GoesOn}
 use Rattle.store_resume.proofs.Refused.{refused_resume}
 use Rattle.store_resume.proofs.Starts.{opened_found, job_found, places_found, start_found, handed_in, one_start, behind_kept, stood_from}
 
@@ -366,19 +367,22 @@ module _ {D M : Type 0} (state : D → DiskState) (lawful : (d : D) → IsDisk (
         (are_images state call.before.store.graphs.items graphs tell_graphs.many (told_images state lawful call.before.store.graphs.items graphs tell_graphs))
         (are_images state call.before.store.values.items values tell_values.many (told_images state lawful call.before.store.values.items values tell_values))
 
-    -- no count rose where the answer was printed
-    calm_of : (ended : Finish) → RunsTo (rounds_of ended) → HasFinishCause faults meters call.after.meters call.write_faults call.write_faults_after ended → IsAnswered (ending_of job (index_in found) ended) → NoneFailed state faults call
-    calm_of (finish.Answered done) runs caused answered = record {
+    -- no call failed, where none failed in the rounds, of the meters, or of the sink
+    none_failed : (result : Result Done RoundFault) → RunsTo result → NoDeviceRose state call.before.store call.after.store → SameCounts faults meters call.after.meters → call.write_faults_after ≡ call.write_faults → NoneFailed state faults call
+    none_failed result runs devices later writes = record {
       reads = no_reads;
-      writes = caused.caused.1;
-      devices = (ap (λ (graphs : Vec D Global). map (λ (d : D). (state d).faults) graphs.items) runs.keeps.graphs, (caused.caused.0 ∙ calm, runs.calm));
+      writes = writes;
+      devices = (ap (λ (graphs : Vec D Global). map (λ (d : D). (state d).faults) graphs.items) runs.keeps.graphs, (later ∙ calm, devices));
     }
-    calm_of (finish.NotWritten done) runs caused answered = absurd answered
-    calm_of (finish.NotRead done) runs caused answered = absurd answered
-    calm_of (finish.Stopped fault.RoundLimit) runs caused answered = absurd answered
-    calm_of (finish.Stopped fault.DiskFault) runs caused answered = absurd answered
-    calm_of (finish.Stopped (fault.Damaged part engine place)) runs caused answered = absurd answered
-    calm_of (finish.Stopped fault.Memory) runs caused answered = absurd answered
+
+    calm_of : (ended : Finish) → RunsTo (rounds_of ended) → HasFinishCause faults meters call.after.meters call.write_faults call.write_faults_after ended → IsFaultless (ending_of job (index_in found) ended) → NoneFailed state faults call
+    calm_of (finish.Answered done) runs caused faultless = none_failed (Ok done) runs runs.calm caused.caused.0 caused.caused.1
+    calm_of (finish.NotWritten done) runs caused faultless = absurd cc
+    calm_of (finish.NotRead done) runs caused faultless = absurd cc
+    calm_of (finish.Stopped fault.RoundLimit) runs caused faultless = none_failed (Err fault.RoundLimit) runs runs.calm caused.caused.0 caused.caused.1
+    calm_of (finish.Stopped fault.DiskFault) runs caused faultless = absurd cc
+    calm_of (finish.Stopped (fault.Damaged part engine place)) runs caused faultless = absurd faultless
+    calm_of (finish.Stopped fault.Memory) runs caused faultless = absurd cc
 
     finished_resume : (ended : Finish) → RunsTo (rounds_of ended) → HasPrints state (split_for job) call.after.store.values.items (shows_side job.program) ended call.out call.out_after
         → HasFinishCause faults meters call.after.meters call.write_faults call.write_faults_after ended → IsResume state faults call engines (ending_of job (index_in found) ended)
@@ -410,13 +414,21 @@ module _ {D M : Type 0} (state : D → DiskState) (lawful : (d : D) → IsDisk (
           (job_found given edges values found resumes) (store_stops ended runs prints edges graphs values tell_graphs tell_values others) storable told resumes stores;
     }
 
+    -- there was no memory, and nothing was done
+    nothing_failed : {ending : Ending} → IsNotBegun state faults job start (index_in found) (record call { before = moment call.before.store meters call.before.seat call.before.beat }) ending → NoneFailed state faults call
+    nothing_failed none = record {
+      reads = no_reads;
+      writes = none.no_writes;
+      devices = subst (λ (after : Moment D M). AreStill state faults call.before after) (sym none.unchanged) (refl, (calm, record { values = refl; lanes = refl; spills = refl }));
+    }
+
     -- **The store was recovered.**
     resumed : (ending : Ending) → GoesOn state faults job start (index_in found) (record call { before = moment call.before.store meters call.before.seat call.before.beat }) ending → IsResume state faults call engines ending
     resumed ending (inl none) =
         let on_still = subst (MetersGoOn faults call.before.meters) (sym (ap (λ (m : Moment D M). m.meters) none.unchanged)) on in
         subst (IsResume state faults call engines) (sym none.memory)
         (refused_resume state lawful faults call engines ready on_still unread no_reads none.unprinted (ap (λ (m : Moment D M). m.store) none.unchanged) (ap (λ (m : Moment D M). m.seat) none.unchanged) (ap (λ (m : Moment D M). m.beat) none.unchanged)
-        recover.Memory tt (λ given edges graphs values storable stores tell_graphs tell_values. tt))
+        recover.Memory tt (λ other. nothing_failed none) (λ given edges graphs values storable stores tell_graphs tell_values. tt))
     resumed ending (inr went) = subst (IsResume state faults call engines) (sym went.1.told) (finished_resume went.0 went.1.rounds went.1.printed went.1.cause)
 
     -- the same, of what it is seen to be

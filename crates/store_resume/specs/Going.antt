@@ -20,6 +20,7 @@ module _ {D M : Type 0} (state : D → DiskState) (faults : M → ℕ) (job : Jo
   pub record IsNotBegun (ending : Ending) : Type 0 where
     pub memory : ending ≡ Memory
     pub unprinted : call.out_after ≡ call.out
+    pub no_writes : call.write_faults_after ≡ call.write_faults
     pub unchanged : call.after ≡ call.before
 
   -- the job came to this finish

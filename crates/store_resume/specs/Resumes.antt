@@ -32,7 +32,7 @@ use Rattle.endings.specs.declared.ending.Ending.{Ending}
 use Rattle.endings.specs.declared.ending.Ending.TheVariants.{Answered, Dropped, Usage, BadLine, DiskFault, RoundLimit, Memory, ReadFault, WriteFault, NotPrepared, EnginesDiffer, Damaged, TooLong, StoreHolds}
 use Rattle.run_model.specs.Telling.{CountsChunks}
 use Rattle.run_model.specs.Calls.{Call, AnyRose, NoneFailed, IsBack}
-use Rattle.run_model.specs.Causes.{is_interrupted, IsAnswered, Comes}
+use Rattle.run_model.specs.Causes.{is_interrupted, IsAnswered, IsFaultless, Comes}
 use Rattle.run_model.specs.Printing.{Prints}
 use Rattle.run_model.specs.Epochs.{IsComplete, HasGone, AreJobEpochs}
 use Rattle.run_model.specs.Standing.{IsStored}
@@ -87,9 +87,10 @@ module _ {D M : Type 0} (state : D → DiskState) (faults : M → ℕ) (call : C
   abbrev pub OfChecked : ((graphs values : List (List ℕ)) → Type 0) → Type 0
   OfChecked P = (graphs values : List (List ℕ)) → Tell state call.before.store.graphs.items graphs → Tell state call.before.store.values.items values → P graphs values
 
-  -- **Damage that a check of the store has found**: nothing was done to the store, and where those tell their bytes it is the first check that fails
+  -- **Damage that a check of the store has found**: nothing was done to the store, no call failed, and where those tell their bytes it is the first check that fails
   pub record IsDamageInChecks (part : Part) (engine place : ℕ) : Type 0 where
     pub untouched : call.after.store ≡ call.before.store
+    pub calm : NoneFailed state faults call
     pub fails : OfChecked (λ graphs values. (fault : damage.Fault) × HasFault graphs values fault × (Damaged part engine place ≡ told_as fault))
 
   -- **Damage in the rounds** of a job that was recovered: a chunk that the recovered index names is refused, or one of updates
@@ -160,13 +161,13 @@ module _ {D M : Type 0} (state : D → DiskState) (faults : M → ℕ) (call : C
       pub kept : AreSettled graphs values → (round : ℕ) → IsKeptRound job edges values round
           → AtEachStop state call (λ b stopped_graphs stopped. (later : ℕ) × (round ≤ later) × IsEverywhere job edges stopped later)
 
-  -- **A resume**: it ends with a cause; each check that fails is answered, the first of them; where it has answered no call
-  -- failed; of a whole store of a job it makes the job's rounds and prints its answer; all is in its place; no graph device
-  -- is touched; and what stops leave of a store of a job is one of that job.
+  -- **A resume**: it ends with a cause; each check that fails is answered, the first of them; unless it was interrupted, or
+  -- met damage in its rounds, no call failed; of a whole store of a job it makes the job's rounds and prints its answer; all
+  -- is in its place; no graph device is touched; and what stops leave of a store of a job is one of that job.
   pub record IsResume (engines : ℕ) (ending : Ending) : Type 0 where
     pub cause : HasResumeCause ending
     pub exact : OfBytes (λ graphs values. (fault : damage.Fault) → HasFault graphs values fault → Comes (told_as fault) ending)
-    pub calm : IsAnswered ending → NoneFailed state faults call
+    pub calm : IsFaultless ending → NoneFailed state faults call
     pub printed : HasPrintedNothing ending
     pub unread : call.text_after ≡ call.text
     pub no_reads : call.read_faults_after ≡ call.read_faults

@@ -40,7 +40,7 @@ returns-in-Ok-Found-clause-resume g c text read_faults =
     resumed_as g.D.Disk.state disks.lawful faults call (slice_set meters k c.recover.new.meter) k read.field-0 read.ensures.formed
     (read.ensures.engines ∙ c.requires.ready.graphs.all) c.requires.ready
     (meters_after faults meters k below c.index_mut.result.now c.recover.new.meter c.index_mut.ensures.value read.ensures.later)
-    (map-set_same faults meters k c.recover.new.meter c.index_mut.result.now (read.ensures.calm ∙ ap faults c.index_mut.ensures.value))
+    (map-set_same faults meters k c.recover.new.meter c.index_mut.result.now (read.ensures.calm (λ is. cc) ∙ ap faults c.index_mut.ensures.value))
     read.ensures.recovered refl refl read.ensures.of_job (Found read.job read.index read.round read.changed) read.field-0-is end.result (end.ensures.goes_on text read_faults)
 
 pub returns-in-Ok-Fresh-clause-resume : goal.returns-in-Ok-Fresh-clause-resume
@@ -67,7 +67,7 @@ returns-in-Ok-Fresh-clause-resume g c text read_faults =
     resumed_as g.D.Disk.state disks.lawful faults call (slice_set meters k c.recover.new.meter) k read.field-0 read.ensures.formed
     (read.ensures.engines ∙ c.requires.ready.graphs.all) c.requires.ready
     (meters_after faults meters k below c.index_mut.result.now c.recover.new.meter c.index_mut.ensures.value read.ensures.later)
-    (map-set_same faults meters k c.recover.new.meter c.index_mut.result.now (read.ensures.calm ∙ ap faults c.index_mut.ensures.value))
+    (map-set_same faults meters k c.recover.new.meter c.index_mut.result.now (read.ensures.calm (λ is. cc) ∙ ap faults c.index_mut.ensures.value))
     read.ensures.recovered refl refl read.ensures.of_job (Fresh read.job read.index) read.field-0-is end.result (end.ensures.goes_on text read_faults)
 
 pub returns-in-Err-clause-resume : goal.returns-in-Err-clause-resume
@@ -98,4 +98,9 @@ returns-in-Err-clause-resume g c text read_faults =
     (cause_among (Rose (faults own) (faults c.recover.new.meter)) (OneCountRose faults meters after)
     (λ fault. (graphs values : List (List ℕ)) → Tell state store.graphs.items graphs → Tell state store.values.items values → HasFault graphs values fault) c.in-Err.fault
     (meter_rose faults meters k below own c.recover.new.meter c.index_mut.ensures.value) c.in-Err.ensures.cause)
+    (λ other. record {
+      reads = refl;
+      writes = refl;
+      devices = (refl, (map-set_same faults meters k c.recover.new.meter own (c.in-Err.ensures.calm (λ is. other cc) ∙ ap faults c.index_mut.ensures.value), record { values = refl; lanes = refl; spills = refl }));
+    })
     c.in-Err.ensures.cause_of_job)
