@@ -3,3 +3,4 @@ pub mod Rising
 pub mod Stops
 pub mod Streams
 pub mod Told
+pub mod Untold

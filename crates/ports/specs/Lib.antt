@@ -6,3 +6,4 @@ pub mod Sink
 pub mod Source
 pub mod Stops
 pub mod Told
+pub mod Untold

@@ -1,6 +1,7 @@
 -- What contracts see of a file as a disk.
-use Rattle.std.specs.Prelude.{ℕ, None}
+use Rattle.std.specs.Prelude.{ℕ}
 use Rattle.ports.specs.Disk.{DiskState}
+use Rattle.ports.specs.Untold.{untold_state}
 
 pub record FileState : Type 0 where
   -- by which meters know the file
@@ -11,14 +12,6 @@ pub record FileState : Type 0 where
   -- how often one of these has failed
   pub faults : ℕ
 
--- A file tells no bytes, so it has no image, and its moment need not rise.
+-- A file tells no bytes.
 abbrev pub untold : FileState → DiskState
-untold file = record {
-  size = file.size;
-  bytes = None;
-  moment = 0;
-  beat = file.beat;
-  images = λ c. ⊥;
-  stops = λ b t c. ⊥;
-  faults = file.faults;
-}
+untold file = untold_state file.size file.beat file.faults

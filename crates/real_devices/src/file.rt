@@ -57,6 +57,7 @@ impl<R: Files<File = File> + Clone + Drop> FileDisk<R> {
 }
 
 impl<R: Files<File = File> + Clone + Drop + Send + Sync> Disk for FileDisk<R> {
+    ghost use Rattle.ports.proofs.Untold.{untold_is_disk};
     ghost use Rattle.real_devices.specs.FileState.{untold};
 
     type M = CountMeter<R>;
@@ -100,12 +101,5 @@ impl<R: Files<File = File> + Clone + Drop + Send + Sync> Disk for FileDisk<R> {
         counted(&mut self.count, answer)
     }
 
-    ghost lawful = { λ disk. record {
-      sized = tt;
-      present = tt;
-      told = λ c image. absurd image;
-      counts_now = λ b t c later before image. absurd image;
-      only_now = λ b c stop. absurd stop;
-      later_beats = λ b t c later stop. absurd stop;
-    } };
+    ghost lawful = { λ disk. untold_is_disk disk.size disk.beat disk.faults };
 }
