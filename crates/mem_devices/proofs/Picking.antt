@@ -1,5 +1,5 @@
 -- The images that are picked are what they are said to be, and images of the model.
-use Rattle.std.proofs.Common.{◌≡◌, ℕ, ◌+◌, ◌-◌, ◌<◌, ◌≤◌, List, [], ◌∷◌, ◌++◌, length, take, drop, get_or, replicate, slice_index, true, false, Bool, All, zero, suc, if◌then◌else◌, arith, refl, sym, subst, ◌∙◌, ap}
+use Rattle.std.proofs.Common.{◌≡◌, ℕ, ◌+◌, ◌<◌, ◌≤◌, List, [], ◌∷◌, ◌++◌, length, take, drop, get_or, replicate, slice_index, true, false, Bool, All, zero, suc, if◌then◌else◌, arith, refl, sym, subst, ◌∙◌, ap}
 use Rattle.std.specs.List.Sorted.{IsNonDecreasing}
 use Rattle.std.proofs.lemmas.List.{take_more, take_all, drop_all, take_at, drop_at, append-nil, length-append, length-take, length-take-le, length-drop, length-replicate, get_or-take, get_or-drop}
 use Rattle.std.proofs.lemmas.List.Elements.{All-from_get_or}

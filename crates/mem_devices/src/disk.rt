@@ -1,5 +1,5 @@
 // Disks in memory.
-ghost use Rattle.std.specs.Prelude.{◌≡◌, ◌+◌, ◌-◌, ◌^◌, ◌<◌, ◌≤◌, [], length, slice_index, All, IfOk, IfSome, IsTrue, IsErr, OnOk, is_ok, not, false};
+ghost use Rattle.std.specs.Prelude.{◌≡◌, ◌+◌, ◌-◌, ◌^◌, ◌<◌, ◌≤◌, [], length, slice_index, All, Some, IfOk, IfSome, IsTrue, IsErr, OnOk, is_ok, not, false};
 ghost use Rattle.ports.specs.Bytes.{bytes_at};
 ghost use Rattle.ports.specs.Disk.{Writes, Cuts, Syncs};
 ghost use Rattle.ports.specs.Faults.{HasCause};
@@ -75,6 +75,13 @@ impl MemDisk {
             .history
             .image(alloc, moment as usize - 1, Pick::of(pick))?;
         MemDisk::new(alloc, &bytes, &[])
+    }
+
+    /// All that stands on the disk.
+    pub fn all_bytes(&self, alloc: Global) -> Result<Vec<u8>, Memory>
+        ensures { IfOk result (λ bytes. (disk_state self.now).bytes ≡ Some bytes.items) }
+    {
+        Ok(Vec::from_slice(alloc, &self.history.bytes)?)
     }
 
     /// Fills `into` with the bytes from `at` on.

@@ -1,6 +1,4 @@
 // A disk that tells nothing of what it holds, as one over a real file.
-ghost use Rattle.std.specs.Prelude.{None};
-
 use crate::{MemDisk, MemMeter};
 use ports::{Beat, Disk, Failed};
 
@@ -10,19 +8,13 @@ pub struct UntoldDisk {
 }
 
 impl Disk for UntoldDisk {
+    ghost use Rattle.ports.specs.Untold.{untold_state};
+    ghost use Rattle.ports.proofs.Untold.{untold_is_disk};
     ghost use Rattle.mem_devices.specs.MemDisk.{disk_state};
 
     type M = MemMeter;
 
-    ghost state = { λ d. record {
-      size = (disk_state d.disk).size;
-      bytes = None;
-      moment = 0;
-      beat = (disk_state d.disk).beat;
-      images = λ c. ⊥;
-      stops = λ b t c. ⊥;
-      faults = (disk_state d.disk).faults;
-    } };
+    ghost state = { λ d. untold_state (disk_state d.disk).size (disk_state d.disk).beat (disk_state d.disk).faults };
 
     fn size(&self) -> u64 {
         self.disk.size()
@@ -44,12 +36,5 @@ impl Disk for UntoldDisk {
         self.disk.sync(beat)
     }
 
-    ghost lawful = { λ d. record {
-      sized = tt;
-      present = tt;
-      told = λ c image. absurd image;
-      counts_now = λ b t c later before image. absurd image;
-      only_now = λ b c stop. absurd stop;
-      later_beats = λ b t c later stop. absurd stop;
-    } };
+    ghost lawful = { λ d. untold_is_disk (disk_state d.disk).size (disk_state d.disk).beat (disk_state d.disk).faults };
 }
