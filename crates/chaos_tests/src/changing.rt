@@ -1,6 +1,4 @@
 //! Devices that tell nothing of what they hold, one of which gives workers another byte from a turn on.
-ghost use Rattle.std.specs.Prelude.{None};
-
 use mem_devices::{MemDisk, MemMeter};
 use ports::{Beat, Disk, Failed, Gate, Meter};
 use std::sync::atomic::{AtomicU64, Ordering};
@@ -50,19 +48,13 @@ impl ChangingDisk<'_> {
 }
 
 impl Disk for ChangingDisk<'_> {
+    ghost use Rattle.ports.specs.Untold.{untold_state};
+    ghost use Rattle.ports.proofs.Untold.{untold_is_disk};
     ghost use Rattle.mem_devices.specs.MemDisk.{disk_state};
 
     type M = KnownMeter;
 
-    ghost state = { λ d. record {
-      size = (disk_state d.disk).size;
-      bytes = None;
-      moment = 0;
-      beat = (disk_state d.disk).beat;
-      images = λ c. ⊥;
-      stops = λ b t c. ⊥;
-      faults = (disk_state d.disk).faults;
-    } };
+    ghost state = { λ d. untold_state (disk_state d.disk).size (disk_state d.disk).beat (disk_state d.disk).faults };
 
     fn size(&self) -> u64 {
         self.disk.size()
@@ -88,14 +80,7 @@ impl Disk for ChangingDisk<'_> {
         self.disk.sync(beat)
     }
 
-    ghost lawful = { λ d. record {
-      sized = tt;
-      present = tt;
-      told = λ c image. absurd image;
-      counts_now = λ b t c later before image. absurd image;
-      only_now = λ b c stop. absurd stop;
-      later_beats = λ b t c later stop. absurd stop;
-    } };
+    ghost lawful = { λ d. untold_is_disk (disk_state d.disk).size (disk_state d.disk).beat (disk_state d.disk).faults };
 }
 
 fn set_last(bytes: &mut [u8]) {

@@ -3,8 +3,7 @@
 use crate::call::call;
 use crate::jobs::Small;
 use crate::world::{World, new_world};
-use mem_devices::{MemDisk, MemMeter};
-use ports::Disk;
+use mem_devices::MemDisk;
 use std::alloc::Global;
 use std::process::Abort;
 use std::thread::Threads;
@@ -28,19 +27,11 @@ impl Contents {
     }
 }
 
-/// All that stands on a disk.
-pub(crate) fn bytes_of(rt: &impl Abort, alloc: Global, disk: &MemDisk) -> Vec<u8> {
-    let mut meter = MemMeter::new(alloc, &[]).expect(rt, "a meter");
-    let mut bytes = vec![in alloc; 0; disk.size() as usize].expect(rt, "room");
-    disk.read_at(&mut meter, 0, bytes.as_mut_slice())
-        .expect(rt, "a read");
-    bytes
-}
-
-fn all_bytes(rt: &impl Abort, alloc: Global, disks: &[MemDisk]) -> Vec<Vec<u8>> {
+fn bytes_of_each(rt: &impl Abort, alloc: Global, disks: &[MemDisk]) -> Vec<Vec<u8>> {
     let mut all = Vec::new(alloc);
     for disk in disks {
-        all.push(bytes_of(rt, alloc, disk)).expect(rt, "room");
+        all.push(disk.all_bytes(alloc).expect(rt, "room"))
+            .expect(rt, "room");
     }
     all
 }
@@ -48,8 +39,8 @@ fn all_bytes(rt: &impl Abort, alloc: Global, disks: &[MemDisk]) -> Vec<Vec<u8>> 
 /// What stands on the devices that outlive a run.
 pub(crate) fn contents_of(rt: &impl Abort, alloc: Global, world: &World<MemDisk>) -> Contents {
     Contents {
-        graphs: all_bytes(rt, alloc, &world.store.graphs),
-        values: all_bytes(rt, alloc, &world.store.values),
+        graphs: bytes_of_each(rt, alloc, &world.store.graphs),
+        values: bytes_of_each(rt, alloc, &world.store.values),
         lanes: Vec::new(alloc),
     }
 }

@@ -1,6 +1,6 @@
 //! What a stop may leave of two engines, and what a resume finds there.
 use crate::call::{call, call_at};
-use crate::contents::{Contents, bytes_of, contents_of};
+use crate::contents::{Contents, contents_of};
 use crate::faults::{Fault, Kind, Object};
 use crate::jobs::{RESUME, Small};
 use crate::world::{World, world_on};
@@ -22,7 +22,7 @@ fn add_images(
     for pick in 0..picks {
         assert!(rt; 1 <= moment && moment <= disk.moments() + 1 && pick <= 3);
         let image = disk.image(alloc, moment, pick).expect(rt, "an image");
-        let bytes = bytes_of(rt, alloc, &image);
+        let bytes = image.all_bytes(alloc).expect(rt, "room");
         if !images.contains(&bytes) {
             images.push(bytes).expect(rt, "room");
         }

@@ -51,19 +51,6 @@ pub(crate) fn rows(rt: &impl Abort, alloc: Global, engines: u32, fault: &Fault) 
     rows
 }
 
-/// A device for the sums of each worker.
-fn spills(rt: &impl Abort, alloc: Global, engines: u32, fault: &Fault) -> Vec<MemDisk>
-    ensures many { vec_len result ≡ engines }
-    ensures beats { All (λ disk. (disk_state disk).beat ≤ 0) result.items }
-{
-    let mut devices = Vec::new(alloc);
-    for worker in 0..engines {
-        let disk = fault.disk(rt, alloc, Called::Spill, 0, worker);
-        devices.push(disk).expect(rt, "room");
-    }
-    devices
-}
-
 /// So many meters.
 pub(crate) fn meters(rt: &impl Abort, alloc: Global, many: u32, fault: &Fault) -> Vec<MemMeter>
     ensures { vec_len result ≡ many }
@@ -104,7 +91,7 @@ pub(crate) fn make(
         graphs: devices(rt, alloc, job.engines, Called::Values, 0, &Fault::NONE),
         values: devices(rt, alloc, job.engines, Called::Values, 0, fault),
         lanes: rows(rt, alloc, job.engines, fault),
-        spills: spills(rt, alloc, job.engines, fault),
+        spills: devices(rt, alloc, job.engines, Called::Spill, 0, fault),
     };
     match prepare(alloc, job, &mut source, &mut store, &mut meter, &mut beat) {
         Ok(index) => {

@@ -7,7 +7,6 @@ use crate::faults::Fault;
 use crate::graphs::{FAR, edges_of, text_of};
 use crate::jobs::{ON_TWO, job_of};
 use crate::made::{Made, make};
-use crate::reading::bytes_of;
 use crate::runs::{expect_plain, go_on, run};
 use engine_gate::{MeetGate, OpenGate};
 use gather_laws::VertexProgram;
@@ -24,8 +23,8 @@ fn expect_same(rt: &impl Abort, alloc: Global, one: &Made, other: &Made) {
     let (one, other) = (&one.store.values, &other.store.values);
     assert_eq!(rt; one.len(), other.len());
     for (first, second) in one.iter().zip(other) {
-        let bytes = bytes_of(rt, alloc, first);
-        let others = bytes_of(rt, alloc, second);
+        let bytes = first.all_bytes(alloc).expect(rt, "room");
+        let others = second.all_bytes(alloc).expect(rt, "room");
         assert_eq!(rt; bytes.as_slice(), others.as_slice());
     }
 }

@@ -125,12 +125,3 @@ pub(crate) fn kept(
     }
     Start::Fresh
 }
-
-/// All that stands on a device.
-pub(crate) fn bytes_of(rt: &impl Abort, alloc: Global, disk: &MemDisk) -> Vec<u8> {
-    let mut meter = MemMeter::new(alloc, &[]).expect(rt, "a meter");
-    let mut bytes = vec![in alloc; 0; disk.size() as usize].expect(rt, "room");
-    disk.read_at(&mut meter, 0, bytes.as_mut_slice())
-        .expect(rt, "a read");
-    bytes
-}

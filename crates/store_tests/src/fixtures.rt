@@ -8,7 +8,7 @@ use chunk_file::Index;
 use graph_model::{Job, Program};
 use mem_devices::{MemDisk, MemMeter, SureSource};
 use partitioner::Split;
-use ports::{Beat, Disk, Source};
+use ports::{Beat, Source};
 use std::alloc::Global;
 use std::process::Abort;
 use storage_engine::{PrepareFault, prepare};
@@ -98,13 +98,4 @@ pub(crate) fn make(
 {
     let mut source = SureSource::new(alloc, text).expect(rt, "a source");
     make_from(rt, alloc, job, &mut source, 0, 0)
-}
-
-/// All that stands on a disk.
-pub(crate) fn bytes_of(rt: &impl Abort, alloc: Global, disk: &MemDisk) -> Vec<u8> {
-    let mut meter = meter_of(rt, alloc, &[]);
-    let mut bytes = vec![in alloc; 0; disk.size() as usize].expect(rt, "room");
-    disk.read_at(&mut meter, 0, bytes.as_mut_slice())
-        .expect(rt, "a read");
-    bytes
 }

@@ -11,7 +11,7 @@ ghost use Rattle.replica_merge.specs.Accumulators.{split_of};
 ghost use Rattle.gather_phase.specs.Rooms.{IsRoom};
 ghost use Rattle.store_tests.specs.Lanes.{AreOnLanes};
 
-use crate::fixtures::{bytes_of, disk_of, job_of_three, make, meter_of, one_disk};
+use crate::fixtures::{disk_of, job_of_three, make, meter_of, one_disk};
 use crate::seats::seat_of_one;
 use chunk_cursor::{CursorSeat, CursorTable};
 use chunk_file::{Index, Place};
@@ -191,7 +191,7 @@ fn updates_of_a_lane_are_gathered(rt: HostRuntime) -> Result<(), Fail> {
     );
     assert_eq!(&rt; share.outcome, Outcome::Done);
     assert_eq!(&rt; share.claims, 1);
-    let spilled = bytes_of(&rt, alloc, &share.spill);
+    let spilled = share.spill.all_bytes(alloc).expect(&rt, "room");
     assert_eq!(&rt; spilled.as_slice(), SPILLED.as_slice());
     Ok(())
 }
@@ -223,7 +223,7 @@ fn repeated_edges_are_counted_each(rt: HostRuntime) -> Result<(), Fail> {
     let share = count_of_five(&rt, alloc, &[], &[]);
     assert_eq!(&rt; share.outcome, Outcome::Done);
     assert_eq!(&rt; share.claims, 5);
-    let spilled = bytes_of(&rt, alloc, &share.spill);
+    let spilled = share.spill.all_bytes(alloc).expect(&rt, "room");
     let mut counts = [0; 24];
     counts[7] = 4;
     counts[23] = 1;

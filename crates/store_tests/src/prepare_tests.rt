@@ -5,7 +5,7 @@ ghost use Rattle.chunk_object.specs.History.{opened_len};
 ghost use Rattle.chunk_cursor.specs.View.{knows, MayClaim};
 ghost use Rattle.chunk_file.specs.Places.{places_of};
 
-use crate::fixtures::{bytes_of, job_of_three, make, make_from, meter_of};
+use crate::fixtures::{job_of_three, make, make_from, meter_of};
 use chunk_cursor::{CursorSeat, CursorTable};
 use chunk_file::Index;
 use graph_model::Edge;
@@ -53,9 +53,9 @@ fn a_store_is_made_byte_by_byte(rt: HostRuntime) {
     let alloc = rt.alloc();
     let (store, made) = make_three(&rt, alloc, 0, 0);
     assert!(&rt; made.is_ok() && store.graphs.len() == 1 && store.values.len() == 1);
-    let graph = bytes_of(&rt, alloc, &store.graphs[0]);
+    let graph = store.graphs[0].all_bytes(alloc).expect(&rt, "room");
     assert_eq!(&rt; graph.as_slice(), GRAPH.as_slice());
-    let values = bytes_of(&rt, alloc, &store.values[0]);
+    let values = store.values[0].all_bytes(alloc).expect(&rt, "room");
     assert_eq!(&rt; values.as_slice(), [0; 144].as_slice());
     let mut meter = meter_of(&rt, alloc, &[]);
     assert_eq!(&rt; all_open(&store, &mut meter), Ok(true));
@@ -137,7 +137,7 @@ fn expect_of_images(rt: &impl Abort, alloc: Global, disk: &MemDisk, is_graph: bo
     for moment in 0..=disk.moments() {
         for pick in 0..picks {
             let image = disk.image(alloc, moment + 1, pick).expect(rt, "an image");
-            let bytes = bytes_of(rt, alloc, &image);
+            let bytes = image.all_bytes(alloc).expect(rt, "room");
             if is_graph {
                 expect_shut_or_whole(rt, &bytes);
             } else {

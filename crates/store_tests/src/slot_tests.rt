@@ -4,7 +4,7 @@ ghost use Rattle.mem_devices.specs.MemDisk.{disk_state};
 ghost use Rattle.partitioner.specs.Splits.{IsSplit};
 
 use crate::crew::{Applied, Sending, apply_on, crew_of};
-use crate::fixtures::{bytes_of, disk_of, job_of_three, meter_of};
+use crate::fixtures::{disk_of, job_of_three, meter_of};
 use checkpoint::{close_slot, open_slot, write_set};
 use gather_laws::{NONE, Value};
 use graph_model::Edge;
@@ -122,7 +122,7 @@ fn rounds_are_stored_byte_by_byte(rt: HostRuntime) {
     let mut disk = disk_of(&rt, alloc, &[0; 144], &[]);
     store_round(&rt, alloc, &split, &mut disk, 2, 1);
     store_round(&rt, alloc, &split, &mut disk, 3, 0);
-    let stored = bytes_of(&rt, alloc, &disk);
+    let stored = disk.all_bytes(alloc).expect(&rt, "room");
     let wanted = device_of(&rt, alloc, &STORED);
     assert_eq!(&rt; stored.as_slice(), wanted.as_slice());
     for (slot, round, changed) in [(0, 2, 1), (1, 3, 0)] {
@@ -148,7 +148,7 @@ fn a_slot_is_closed_by_its_gate_alone(rt: HostRuntime) {
     let mut wanted = device_of(&rt, alloc, &STORED);
     assert!(&rt; wanted.len() == 144);
     wanted[SLOT] = 0;
-    let closed = bytes_of(&rt, alloc, &disk);
+    let closed = disk.all_bytes(alloc).expect(&rt, "room");
     assert_eq!(&rt; closed.as_slice(), wanted.as_slice());
     // a sync, the gate and a sync, and then a sync alone
     assert_eq!(&rt; (calls, disk.moments()), (3, 4));
@@ -183,7 +183,7 @@ fn make_round_three(
 
 /// Slot 0 is as before, and slot 1 is as before, closed or whole.
 fn expect_safe(rt: &impl Abort, alloc: Global, image: &MemDisk, before: &[u64]) {
-    let bytes = bytes_of(rt, alloc, image);
+    let bytes = image.all_bytes(alloc).expect(rt, "room");
     let before = device_of(rt, alloc, before);
     let whole = device_of(rt, alloc, &STORED);
     assert!(rt; bytes.len() == 144 && before.len() == 144 && whole.len() == 144);
@@ -212,7 +212,7 @@ fn count_faults(rt: &impl Abort, alloc: Global, before: &[u64], reads: bool) -> 
         let applied = make_round_three(rt, alloc, before, &[call], &[read]);
         expect_images_safe(rt, alloc, &applied.disk, before);
         if applied.outcome == Outcome::Done {
-            let stored = bytes_of(rt, alloc, &applied.disk);
+            let stored = applied.disk.all_bytes(alloc).expect(rt, "room");
             let wanted = device_of(rt, alloc, &STORED);
             assert_eq!(rt; stored.as_slice(), wanted.as_slice());
             return number;
