@@ -1,6 +1,5 @@
 -- What is printed of a round that is read.
-use Rattle.std.proofs.Common.{◌≡◌, ℕ, ◌^◌, ◌<◌, ◌≤◌, zero, suc, Option, Some, None, List, [], ◌∷◌, ◌++◌, length, take, drop, get_or, refl, ◌∙◌, ap, arith}
-use Rattle.std.specs.Prelude.{slice_get, option_and_then}
+use Rattle.std.proofs.Common.{◌≡◌, ℕ, ◌^◌, ◌≤◌, Option, Some, None, List, [], ◌++◌, length, take, drop, refl, arith}
 use Rattle.std.proofs.lemmas.List.{take-append-drop}
 use Rattle.graph_model.specs.declared.edge.Edge.{Edge}
 use Rattle.graph_model.specs.declared.job.Job.{Job}
@@ -26,7 +25,6 @@ use Rattle.store_reader.specs.Values.{HoldValues}
 use Rattle.round_steps.proofs.Holding.{hold_values}
 use Rattle.answer_lines.specs.Printing.{PrintsAll, PrintsFront}
 use Rattle.answer_lines.proofs.Answered.{prints_these, prints_front_of_these}
-use Rattle.list_moves.proofs.Desks.{some_of}
 use Rattle.store_rounds.specs.Printed.{AnswerPrinted, FrontPrinted}
 
 -- Both numbers of each value of a round have room in 64 bits.
