@@ -22,6 +22,7 @@ use Rattle.store_reader.specs.declared.store.Store.{Store}
 use Rattle.store_reader.specs.Devices.{SomeShut}
 use Rattle.storage_engine.specs.Preparing.{IsMadeOf, Prepares}
 use Rattle.epoch_laws.specs.Phases.{edge_shelf}
+use Rattle.round_steps.specs.Going.{NoDeviceRose}
 use Rattle.round_steps.specs.Damage.{IsDamage}
 use Rattle.round_steps.proofs.Kept.{meters_then, meter_rose_later}
 use Rattle.round_loop.specs.declared.run.Start.TheVariants.{Fresh}
@@ -53,7 +54,7 @@ use Rattle.endings.specs.declared.ending.Ending.{Ending}
 use Rattle.endings.specs.declared.ending.Ending.TheVariants.{Answered, WriteFault, RoundLimit}
 use Rattle.run_model.specs.Telling.{ending_of, report_of, CountsChunks}
 use Rattle.run_model.specs.Calls.{Call, OfText, IsReady, Tells, StoreGoesOn, NoneFailed, IsBack}
-use Rattle.run_model.specs.Causes.{IsDamageOfMade, HasCause, IsAnswered}
+use Rattle.run_model.specs.Causes.{IsDamageOfMade, HasCause, IsFaultless}
 use Rattle.run_model.specs.Printing.{HasPrinted}
 use Rattle.store_rounds.specs.Printed.{AnswerPrinted, FrontPrinted}
 use Rattle.run_model.specs.Epochs.{HasGone, AreJobEpochs, IsReportOf}
@@ -299,30 +300,36 @@ module _ {D M : Type 0} (state : D → DiskState) (lawful : (d : D) → IsDisk (
       (given_are state job well second call.text call.text_after call.before.beat now read call.before.store new index prepares lanes spills call.before.meters call.before.seat ready told told_is)
       (counts_of_finish job prepares.made.0 index well (engine_counted job prepares.made.0 (storable state job well second call.text call.text_after call.before.beat now read call.before.store new index prepares lanes spills call.before.meters call.before.seat ready) index prepares.made.1.places) ended report is)
 
-  -- no call failed, where it has answered
+  -- no call failed, where none failed in the rounds, of the meters, or of the streams
+  none_failed : (result : Result Done RoundFault) → RunsTo result → NoDeviceRose state new call.after.store → SameCounts faults meters call.after.meters
+      → SameCounts faults call.before.meters meters → call.read_faults_after ≡ call.read_faults → call.write_faults_after ≡ call.write_faults → NoneFailed state faults call
+  none_failed result runs devices later still reads writes =
+      let made = prepares.calm (λ is. cc) in
+      record {
+        reads = reads;
+        writes = writes;
+        devices = (
+          subst (λ (graphs : Vec D Global). NoneRose state call.before.store.graphs.items graphs.items) (sym runs.keeps.graphs) made.0,
+          (
+            later ∙ still,
+            record {
+              values = devices.values ∙ made.1;
+              lanes = subst (λ (rows : Vec (Vec D Global) Global). NoRowRose state rows.items call.after.store.lanes.items) lanes devices.lanes;
+              spills = subst (λ (spilled : Vec D Global). NoneRose state spilled.items call.after.store.spills.items) spills devices.spills;
+            },
+          ),
+        );
+      }
+
   calm_of : (ended : Finish) → RunsTo (rounds_of ended) → HasFinishCause faults meters call.after.meters call.write_faults call.write_faults_after ended
-      → SameCounts faults call.before.meters meters → call.read_faults_after ≡ call.read_faults → IsAnswered (ending_of job index ended) → NoneFailed state faults call
-  calm_of (finish.Answered done) runs caused still reads answered = record {
-    reads = reads;
-    writes = caused.caused.1;
-    devices = (
-      subst (λ (graphs : Vec D Global). NoneRose state call.before.store.graphs.items graphs.items) (sym runs.keeps.graphs) prepares.calm.0,
-      (
-        caused.caused.0 ∙ still,
-        record {
-          values = runs.calm.values ∙ prepares.calm.1;
-          lanes = subst (λ (rows : Vec (Vec D Global) Global). NoRowRose state rows.items call.after.store.lanes.items) lanes runs.calm.lanes;
-          spills = subst (λ (devices : Vec D Global). NoneRose state devices.items call.after.store.spills.items) spills runs.calm.spills;
-        },
-      ),
-    );
-  }
-  calm_of (finish.NotWritten done) runs caused still reads answered = absurd answered
-  calm_of (finish.NotRead done) runs caused still reads answered = absurd answered
-  calm_of (finish.Stopped fault.RoundLimit) runs caused still reads answered = absurd answered
-  calm_of (finish.Stopped fault.DiskFault) runs caused still reads answered = absurd answered
-  calm_of (finish.Stopped (fault.Damaged part engine place)) runs caused still reads answered = absurd answered
-  calm_of (finish.Stopped fault.Memory) runs caused still reads answered = absurd answered
+      → SameCounts faults call.before.meters meters → call.read_faults_after ≡ call.read_faults → IsFaultless (ending_of job index ended) → NoneFailed state faults call
+  calm_of (finish.Answered done) runs caused still reads faultless = none_failed (Ok done) runs runs.calm caused.caused.0 still reads caused.caused.1
+  calm_of (finish.NotWritten done) runs caused still reads faultless = absurd cc
+  calm_of (finish.NotRead done) runs caused still reads faultless = absurd cc
+  calm_of (finish.Stopped fault.RoundLimit) runs caused still reads faultless = none_failed (Err fault.RoundLimit) runs runs.calm caused.caused.0 still reads caused.caused.1
+  calm_of (finish.Stopped fault.DiskFault) runs caused still reads faultless = absurd cc
+  calm_of (finish.Stopped (fault.Damaged part engine place)) runs caused still reads faultless = absurd faultless
+  calm_of (finish.Stopped fault.Memory) runs caused still reads faultless = absurd cc
 
   -- **A run whose store was made**
   finished_run : (ended : Finish) → RunsTo (rounds_of ended) → Prints state (split_for job) call.after.store.values.items (shows_side job.program) ended call.out call.out_after

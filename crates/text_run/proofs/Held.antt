@@ -2,7 +2,7 @@
 use Rattle.std.proofs.Common.{◌∙◌, inl, inr, ℕ, List, [], Option, refl, sym, subst, arith}
 use Rattle.std.specs.List.{All}
 use Rattle.ports.specs.Disk.{DiskState, IsDisk}
-use Rattle.ports.specs.Devices.{MetersGoOn, OneCountRose}
+use Rattle.ports.specs.Devices.{MetersGoOn, OneCountRose, SameCounts}
 use Rattle.graph_model.specs.declared.job.Job.{Job}
 use Rattle.graph_model.specs.Answer.{edges}
 use Rattle.store_reader.specs.declared.store.Store.{Store}
@@ -12,8 +12,8 @@ use Rattle.round_loop.specs.declared.run.Start.TheVariants.{Fresh}
 use Rattle.round_loop.specs.Keeping.{moment}
 use Rattle.endings.specs.declared.ending.Ending.{Ending}
 use Rattle.endings.specs.declared.ending.Ending.TheVariants.{DiskFault, Memory, StoreHolds}
-use Rattle.run_model.specs.Calls.{Call, IsReady, IsBack}
-use Rattle.run_model.specs.Causes.{HasCause, IsExact, IsAnswered}
+use Rattle.run_model.specs.Calls.{Call, IsReady, NoneFailed, IsBack}
+use Rattle.run_model.specs.Causes.{HasCause, IsExact, IsAnswered, IsFaultless}
 use Rattle.run_model.specs.Printing.{HasPrinted}
 use Rattle.run_model.specs.Epochs.{IsComplete}
 use Rattle.run_model.specs.Standing.{StandsAfter}
@@ -58,13 +58,13 @@ module _ {D M : Type 0} (state : D → DiskState) (lawful : (d : D) → IsDisk (
     beats = (omega arith, omega arith);
   }
 
-  run : (ending : Ending) → (IsComplete ending → ⊥) → (IsAnswered ending → ⊥) → HasCause state faults job call ending → IsExact state faults job call ending
+  run : (ending : Ending) → (IsComplete ending → ⊥) → (IsAnswered ending → ⊥) → HasCause state faults job call ending → IsExact state faults job call ending → (IsFaultless ending → NoneFailed state faults call)
       → HasPrinted state job call ending → StandsAfter state job call ending
       → IsRun state faults job call ending
-  run ending not_complete not_answered cause exact printed stands = record {
+  run ending not_complete not_answered cause exact calm printed stands = record {
     cause = cause;
     exact = exact;
-    calm = λ answered. absurd (not_answered answered);
+    calm = calm;
     printed = printed;
     all_read = λ answered. absurd (not_answered answered);
     epochs = [];
@@ -78,18 +78,19 @@ module _ {D M : Type 0} (state : D → DiskState) (lawful : (d : D) → IsDisk (
   }
 
   -- **The store holds a job.**
-  pub held : All (λ disk. IsOpenDevice (state disk)) store.graphs.items → IsRun state faults job call StoreHolds
-  held are =
+  pub held : All (λ disk. IsOpenDevice (state disk)) store.graphs.items → SameCounts faults meters meters' → IsRun state faults job call StoreHolds
+  held are still =
       let open_now = prepared state faults job call are in
       run StoreHolds (λ c. c) (λ c. c) open_now (exact_held state faults job call open_now)
+      (λ faultless. record { reads = refl; writes = refl; devices = (refl, (still, record { values = refl; lanes = refl; spills = refl })) })
       (prints_nothing state job call refl) refl
 
   -- **A read of a graph device's gate failed.**
   pub unread : OneCountRose faults meters meters' → IsRun state faults job call DiskFault
-  unread rose = run DiskFault (λ c. c) (λ c. c) (inr (inl rose)) (exact_interrupted state faults job call DiskFault refl)
+  unread rose = run DiskFault (λ c. c) (λ c. c) (inr (inl rose)) (exact_interrupted state faults job call DiskFault refl) (λ faultless. absurd cc)
       (λ told told_is graphs tells. inl (prints_nothing state job call refl)) tt
 
   -- **There was no memory.**
   pub no_room : IsRun state faults job call Memory
-  no_room = run Memory (λ c. c) (λ c. c) tt (exact_interrupted state faults job call Memory refl)
+  no_room = run Memory (λ c. c) (λ c. c) tt (exact_interrupted state faults job call Memory refl) (λ faultless. absurd cc)
       (prints_nothing state job call refl) tt

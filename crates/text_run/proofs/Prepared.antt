@@ -1,5 +1,5 @@
 -- All that belongs to a store, after a store was made or refused.
-use Rattle.std.proofs.Common.{◌≡◌, ◌∙◌, inl, inr, ℕ, ◌+◌, ◌≤◌, List, length, Option, Result, sym, subst, arith}
+use Rattle.std.proofs.Common.{◌≡◌, ◌≢◌, ◌∙◌, inl, inr, ℕ, ◌+◌, ◌≤◌, List, length, Option, Result, Ok, Err, sym, subst, arith}
 use Rattle.std.specs.Prelude.{Vec}
 use Rattle.std.specs.Global.{Global}
 use Rattle.ports.specs.Disk.{DiskState}
@@ -14,6 +14,10 @@ use Rattle.round_loop.specs.Keeping.{AreLater, AreLaterRows, moment}
 use Rattle.run_model.specs.Calls.{IsReady, StoreGoesOn}
 use Rattle.round_loop.proofs.Keeping.{same_devices, same_rows}
 use Rattle.run_model.proofs.Going.{later_made, devices_on, rows_on, devices_of}
+
+-- a store that was made was not refused
+pub not_refused : (index : List (List Place)) (why : PrepareFault) → ◌≢◌ {A = Result (List (List Place)) PrepareFault} (Ok index) (Err why)
+not_refused index why is = cc
 
 -- a call may be made with other meters, as many
 pub ready_with : {D M : Type 0} (state : D → DiskState) (engines : ℕ) (store : Store D M) (meters meters' : List M) (seat : View) (beat : ℕ) → length meters' ≡ length meters → IsReady state engines (moment store meters seat beat) → IsReady state engines (moment store meters' seat beat)

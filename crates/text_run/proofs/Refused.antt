@@ -1,13 +1,16 @@
 -- A store was not made.
-use Rattle.std.proofs.Common.{◌≡◌, ◌∙◌, ◌⊎◌, inl, inr, ℕ, List, [], Option, Some, Err, refl, sym, subst, arith}
+use Rattle.std.proofs.Common.{◌≡◌, ◌≢◌, ◌∙◌, ◌⊎◌, inl, inr, ℕ, List, [], Option, Some, Result, Err, refl, sym, subst, arith}
+use Rattle.std.specs.Prelude.{Vec}
+use Rattle.std.specs.Global.{Global}
 use Rattle.ports.specs.Disk.{DiskState}
 use Rattle.ports.specs.Faults.{Rose}
-use Rattle.ports.specs.Devices.{OneRose, MetersGoOn}
+use Rattle.ports.specs.Devices.{OneRose, NoneRose, NoRowRose, MetersGoOn, SameCounts}
 use Rattle.graph_model.specs.declared.edge.TextFault.TheVariants as fault
 use Rattle.graph_model.specs.declared.job.Job.{Job}
 use Rattle.graph_model.specs.EdgeText.{text_limit}
 use Rattle.graph_model.specs.Answer.{edges, refusal_of, IsAccepted}
 use Rattle.chunk_cursor.specs.declared.view.View.{View}
+use Rattle.chunk_file.specs.declared.index.Place.{Place}
 use Rattle.store_reader.specs.declared.store.Store.{Store}
 use Rattle.store_reader.specs.Devices.{SomeShut}
 use Rattle.storage_engine.specs.declared.fault.PrepareFault.{PrepareFault}
@@ -19,8 +22,8 @@ use Rattle.store_rounds.specs.Making.{LeaveMade}
 use Rattle.store_rounds.proofs.Places.{stop_of_each}
 use Rattle.store_rounds.proofs.Beginning.{making_at_stop}
 use Rattle.endings.specs.declared.ending.Ending.{Ending}
-use Rattle.run_model.specs.Calls.{Call, IsReady, IsBack}
-use Rattle.run_model.specs.Causes.{HasCause, IsAnswered}
+use Rattle.run_model.specs.Calls.{Call, IsReady, NoneFailed, IsBack}
+use Rattle.run_model.specs.Causes.{HasCause, IsAnswered, IsFaultless}
 use Rattle.run_model.specs.Printing.{HasPrinted, PrintsNothing}
 use Rattle.run_model.specs.Epochs.{IsComplete}
 use Rattle.run_model.specs.Standing.{AllShut, StandsAfter}
@@ -60,6 +63,14 @@ not_answered limit prepare.ReadFault answered = answered
 not_answered limit prepare.DiskFault answered = answered
 not_answered limit prepare.Memory answered = answered
 
+-- what is said of every refusal but a failed read, and of every one but a fault of a device, is said of one that is faultless
+faultless_of : (limit : ℕ) (why : PrepareFault) (P Q : Type 0) → (why ≢ prepare.ReadFault → P) → (why ≢ prepare.DiskFault → Q) → IsFaultless (refusal limit why) → P × Q
+faultless_of limit (prepare.BadLine line) P Q read device faultless = (read (λ is. cc), device (λ is. cc))
+faultless_of limit prepare.TooLong P Q read device faultless = (read (λ is. cc), device (λ is. cc))
+faultless_of limit prepare.ReadFault P Q read device faultless = absurd cc
+faultless_of limit prepare.DiskFault P Q read device faultless = absurd cc
+faultless_of limit prepare.Memory P Q read device faultless = absurd cc
+
 -- what is said by each ending
 module _ {D M : Type 0} (state : D → DiskState) (faults : M → ℕ) (job : Job) (call : Call D M) where
   cause_of : (why : PrepareFault) → HasPrepareCause job call.text (OneRose state call.before.store.graphs.items call.after.store.graphs.items ⊎ OneRose state call.before.store.values.items call.after.store.values.items) (Rose call.read_faults call.read_faults_after) why
@@ -87,7 +98,8 @@ module _ {D M : Type 0} (state : D → DiskState) (faults : M → ℕ) (job : Jo
 
 module _ {D M : Type 0} (state : D → DiskState) (faults : M → ℕ) (job : Job) (text left out : Option (List ℕ)) (reads reads' writes : ℕ) (old new : Store D M) (meters meters' : List M) (seat : View) (number now : ℕ) (why : PrepareFault)
     (ready : IsReady state job.engines (moment old meters seat number)) (on : MetersGoOn faults meters meters') (shut : SomeShut state old.graphs.items)
-    (prepares : Prepares state job text left number now (Rose reads reads') old.graphs.items new.graphs.items old.values.items new.values.items (Err why)) (lanes : new.lanes ≡ old.lanes) (spills : new.spills ≡ old.spills) where
+    (prepares : Prepares state job text left number now (Rose reads reads') old.graphs.items new.graphs.items old.values.items new.values.items (Err why)) (lanes : new.lanes ≡ old.lanes) (spills : new.spills ≡ old.spills)
+    (still : SameCounts faults meters meters') (reads_same : ◌≢◌ {A = Result (List (List Place)) PrepareFault} (Err why) (Err prepare.ReadFault) → reads' ≡ reads) where
   abbrev call : Call D M
   call = begun text left out reads reads' writes old new meters meters' seat number now
 
@@ -119,6 +131,26 @@ module _ {D M : Type 0} (state : D → DiskState) (faults : M → ℕ) (job : Jo
         in_rounds = λ told told_is devices tells round from b graphs values within stop_graphs stop_values is. absurd (omega (arith, within, on_beat.1, is));
       }
 
+  calm : IsFaultless (refusal (text_limit job.chunk) why) → NoneFailed state faults call
+  calm faultless =
+      let same = faultless_of (text_limit job.chunk) why (reads' ≡ reads) (NoneRose state old.graphs.items new.graphs.items × NoneRose state old.values.items new.values.items)
+      (λ other. reads_same (λ is. other cc)) (λ other. prepares.calm (λ is. other cc)) faultless in
+      record {
+        reads = same.0;
+        writes = refl;
+        devices = (
+          same.1.0,
+          (
+            still,
+            record {
+              values = same.1.1;
+              lanes = subst (λ (rows : Vec (Vec D Global) Global). NoRowRose state old.lanes.items rows.items) (sym lanes) refl;
+              spills = subst (λ (devices : Vec D Global). NoneRose state old.spills.items devices.items) (sym spills) refl;
+            },
+          ),
+        );
+      }
+
   -- **A run whose store was not made**
   refused_run : IsRun state faults job call (refusal (text_limit job.chunk) why)
   refused_run =
@@ -126,7 +158,7 @@ module _ {D M : Type 0} (state : D → DiskState) (faults : M → ℕ) (job : Jo
       record {
         cause = cause;
         exact = exact state faults job call (unprepared state faults job call shut) (refusal (text_limit job.chunk) why) cause;
-        calm = λ answered. absurd (not_answered (text_limit job.chunk) why answered);
+        calm = calm;
         printed = printed_of state faults job call (text_limit job.chunk) why (prints_nothing state job call refl);
         all_read = λ answered. absurd (not_answered (text_limit job.chunk) why answered);
         epochs = [];

@@ -3,12 +3,13 @@ use Rattle.std.proofs.Common.{◌∙◌, ◌<◌, ◌≤◌, List, length, slice
 use Rattle.std.proofs.Math.Seq.{map-set_same}
 use Rattle.ports.specs.Faults.{Rose}
 use Rattle.ports.specs.Devices.{MetersGoOn, SameCounts}
+use Rattle.storage_engine.specs.declared.fault.PrepareFault.TheVariants.{ReadFault}
 use Rattle.round_steps.proofs.Kept.{meters_then}
 use Rattle.round_loop.specs.Keeping.{moment}
 use Rattle.run_model.specs.Calls.{Call}
 use Rattle.text_run.specs.Refusals.{refusal}
 use Rattle.run_model.proofs.Going.{meters_after}
-use Rattle.text_run.proofs.Prepared.{ready_with}
+use Rattle.text_run.proofs.Prepared.{not_refused, ready_with}
 use Rattle.text_run.proofs.Held.{no_room}
 use Rattle.text_run.proofs.Refused.{refused_as}
 use Rattle.text_run.proofs.Made.{is_store}
@@ -37,6 +38,7 @@ returns-in-Err-prepare-clause-run g c earlier on still =
     (g.S.Source.faults c.args.source.now) (g.S.Source.faults c.prepare.new.source) (g.K.Sink.faults c.args.out.now) c.args.store.now c.prepare.new.store earlier after c.args.seat.now.view c.args.beat.now c.prepare.new.beat
     c.in-Err-prepare.fault (ready_with g.D.Disk.state k c.args.store.now meters earlier c.args.seat.now.view c.args.beat.now (sym on.many) c.requires.ready) on_after c.requires.shut
     c.in-Err-prepare.ensures.prepares c.in-Err-prepare.ensures.rest.0 c.in-Err-prepare.ensures.rest.1
+    (map-set_same faults meters k c.prepare.new.meter own (ap faults (c.in-Err-prepare.ensures.rest.2 ∙ c.index_mut.ensures.value)) ∙ still) c.in-Err-prepare.ensures.calm
     c.refusal.result (c.refusal.ensures ∙ ap (λ limit. refusal limit c.in-Err-prepare.fault) c.text_limit.ensures)
 
 pub run_job-finish-requires-clause-store : goal.run_job-finish-requires-clause-store
@@ -74,4 +76,4 @@ returns-clause-run g c earlier on still =
     (Rose (g.S.Source.faults c.args.source.now) (g.S.Source.faults c.prepare.new.source)) c.prepare.new.store after c.in-Ok-prepare.index
     (ready_with g.D.Disk.state k c.args.store.now meters earlier c.args.seat.now.view c.args.beat.now (sym on.many) c.requires.ready) on_after c.requires.shut
     c.in-Ok-prepare.ensures.prepares c.in-Ok-prepare.ensures.rest.0 c.in-Ok-prepare.ensures.rest.1
-    end.result end.ensures.rounds end.ensures.printed end.ensures.cause still_after c.in-Ok-prepare.ensures.calm c.ending_of.result c.ending_of.ensures
+    end.result end.ensures.rounds end.ensures.printed end.ensures.cause still_after (c.in-Ok-prepare.ensures.calm (not_refused c.in-Ok-prepare.index ReadFault)) c.ending_of.result c.ending_of.ensures

@@ -17,6 +17,7 @@ returns-in-Ok-true-clause-run g c =
     meters (slice_set meters k c.all_open.new.meter) c.args.seat.now.view c.args.beat.now c.requires.ready
     (meters_after faults meters k below c.index_mut.result.now c.all_open.new.meter c.index_mut.ensures.value c.in-Ok-true.ensures.cause.later)
     (c.in-Ok-true.ensures.open c.in-Ok-true.field-0-test)
+    (map-set_same faults meters k c.all_open.new.meter c.index_mut.result.now (c.in-Ok-true.ensures.cause.calm ∙ ap faults c.index_mut.ensures.value))
 
 pub returns-in-Ok-false-clause-run : goal.returns-in-Ok-false-clause-run
 returns-in-Ok-false-clause-run g c =
