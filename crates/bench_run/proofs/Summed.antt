@@ -10,16 +10,16 @@ use Rattle.endings.specs.declared.ending.Report.{Report}
 use Rattle.endings.specs.declared.ending.Ending.{Ending}
 use Rattle.endings.specs.declared.ending.Ending.TheVariants.{Answered, BadLine, ReadFault, WriteFault}
 use Rattle.run_model.specs.Calls.{Call, Tells, NoneFailed}
-use Rattle.run_model.specs.Causes.{IsAnswered}
+use Rattle.run_model.specs.Causes.{IsFaultless}
 use Rattle.run_model.specs.Printing.{Prints}
 use Rattle.run_model.specs.Runs.{IsRun}
 use Rattle.bench_run.specs.Benches.{made_run, made_edges, summary, IsToldOn, IsSummary, HasPrintedSummary, IsBench}
 
 module _ {D M : Type 0} (state : D → DiskState) (faults : M → ℕ) (job : Job) (scale edges rng : ℕ) (call : Call D M) where
   -- an ending that is no answer is passed on
-  pub passed_on : (printed : List ℕ) (made : Ending) → ((report : Report) → made ≡ Answered report → ⊥) → Prints call.out call.out_after [] → IsToldOn state faults job scale edges rng call printed made made
-  passed_on printed (Answered report) not_answered prints = absurd (not_answered report refl)
-  passed_on printed made not_answered prints = record { same = refl; prints = prints }
+  pub passed_on : (printed : List ℕ) (made : Ending) → ((report : Report) → made ≡ Answered report → ⊥) → Prints call.out call.out_after [] → call.write_faults_after ≡ call.write_faults → IsToldOn state faults job scale edges rng call printed made made
+  passed_on printed (Answered report) not_answered prints no_writes = absurd (not_answered report refl)
+  passed_on printed made not_answered prints no_writes = record { same = refl; prints = prints; no_writes = no_writes }
 
   -- the run as it is called, over a source and a sink that are so full
   abbrev pub called : (text out left printed : List ℕ) → Call D M
@@ -81,10 +81,10 @@ module _ {D M : Type 0} (state : D → DiskState) (faults : M → ℕ) (job : Jo
     write_fault_of WriteFault ending run told is = absurd (omega (arith, run.cause))
     write_fault_of made ending run told is = absurd (cc)
 
-    calm_of : (made ending : Ending) → Made made → ToldOn made ending → call.read_faults_after ≡ call.read_faults → IsAnswered ending → NoneFailed state faults call
-    calm_of (Answered report) ending run (inl up) no_reads is = record { reads = no_reads; writes = up.calm; devices = (run.calm tt).devices }
-    calm_of (Answered report) ending run (inr cut) no_reads is = absurd (subst IsAnswered cut.told is)
-    calm_of made ending run told no_reads is = absurd (subst IsAnswered told.same is)
+    calm_of : (made ending : Ending) → Made made → ToldOn made ending → call.read_faults_after ≡ call.read_faults → IsFaultless ending → NoneFailed state faults call
+    calm_of (Answered report) ending run (inl up) no_reads is = record { reads = no_reads; writes = up.calm; devices = (run.calm refl).devices }
+    calm_of (Answered report) ending run (inr cut) no_reads is = let wrong = subst IsFaultless cut.told is in absurd (cc)
+    calm_of made ending run told no_reads is = record { reads = no_reads; writes = told.no_writes; devices = (run.calm (subst IsFaultless told.same is)).devices }
 
     no_read_fault_of : (made ending : Ending) → Made made → ToldOn made ending → ending ≡ ReadFault → ⊥
     no_read_fault_of (Answered report) ending run (inl up) is = cc

@@ -15,7 +15,7 @@ use Rattle.endings.specs.declared.ending.Report.{Report}
 use Rattle.endings.specs.declared.ending.Ending.{Ending}
 use Rattle.endings.specs.declared.ending.Ending.TheVariants.{Answered, BadLine, WriteFault, ReadFault}
 use Rattle.run_model.specs.Calls.{Call, OfTold, NoneFailed}
-use Rattle.run_model.specs.Causes.{IsAnswered}
+use Rattle.run_model.specs.Causes.{IsFaultless}
 use Rattle.run_model.specs.Printing.{Prints}
 use Rattle.run_model.specs.Runs.{IsRun}
 use Rattle.bench_run.specs.Summaries.{summary_text}
@@ -55,6 +55,7 @@ module _ {D M : Type 0} (state : D → DiskState) (faults : M → ℕ) (job : Jo
   pub record IsPassedOn (made ending : Ending) : Type 0 where
     pub same : ending ≡ made
     pub prints : Prints call.out call.out_after []
+    pub no_writes : call.write_faults_after ≡ call.write_faults
 
   -- **How the ending of the run is told on**
   abbrev pub IsToldOn : (printed : List ℕ) (made ending : Ending) → Type 0
@@ -91,9 +92,9 @@ module _ {D M : Type 0} (state : D → DiskState) (faults : M → ℕ) (job : Jo
   HasPrintedSummary WriteFault = OfTold state call.before.store (λ graphs. PrintsSummaryFront)
   HasPrintedSummary _ = Prints call.out call.out_after []
 
-  -- **A bench**: a run over the text of the number, with all that is promised of one, whose answer is summed up. Where it
-  -- has answered no call failed. No line is called malformed where the graph has room for the vertices of the text, and the
-  -- source is not read.
+  -- **A bench**: a run over the text of the number, with all that is promised of one, whose answer is summed up. Unless it
+  -- was interrupted, or met damage, no call failed. No line is called malformed where the graph has room for the vertices of
+  -- the text, and the source is not read.
   pub record IsBench (ending : Ending) : Type 0 where
     pub left : List ℕ
     pub printed : List ℕ
@@ -102,7 +103,7 @@ module _ {D M : Type 0} (state : D → DiskState) (faults : M → ℕ) (job : Jo
     pub told_on : IsToldOn printed made ending
     pub written : HasPrintedSummary ending
     pub write_fault : ending ≡ WriteFault → Rose call.write_faults call.write_faults_after
-    pub calm : IsAnswered ending → NoneFailed state faults call
+    pub calm : IsFaultless ending → NoneFailed state faults call
     pub no_read_fault : ¬ (ending ≡ ReadFault)
     pub no_bad_line : 2 ^ scale ≤ job.vertices → (line : ℕ) → ¬ (ending ≡ BadLine line)
     pub unread : call.text_after ≡ call.text

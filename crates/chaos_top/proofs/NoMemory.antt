@@ -39,12 +39,12 @@ module _ {D M : Type 0} (state : D → DiskState) (lawful : (d : D) → IsDisk (
       let whole = rmat_text scale edges rng in
       is_bench state faults job scale edges rng call whole [] Memory Memory
       (no_room state lawful faults job (Some whole) (Some []) 0 0 store meters meters seat beat ready (meters_same faults meters))
-      (passed_on state faults job scale edges rng call [] Memory (λ report is. cc) (prints_none out out refl)) (λ fits line is. cc) refl refl
+      (passed_on state faults job scale edges rng call [] Memory (λ report is. cc) (prints_none out out refl) refl) (λ fits line is. cc) refl refl
 
   not_dropped : (engines : ℕ) → IsReady state engines (moment store meters seat beat) → IsDrop state faults call engines Memory
   not_dropped engines ready = record {
     cause = refl;
-    calm = λ is. absurd cc;
+    calm = λ faultless. absurd cc;
     printed = prints_none out out refl;
     no_writes = refl;
     unread = refl;
@@ -60,7 +60,7 @@ module _ {D M : Type 0} (state : D → DiskState) (lawful : (d : D) → IsDisk (
   nothing_done (Some (Run job report)) ready = not_run job ready
   nothing_done (Some (Bench job scale edges rng)) ready = not_made job scale edges rng ready
   nothing_done (Some (Resume engines report)) ready = refused_resume state lawful faults call engines ready (meters_same faults meters) refl refl refl refl refl refl
-      recover.Memory tt (λ job edges graphs values storable stores tell_graphs tell_values. tt)
+      recover.Memory tt (λ other. record { reads = refl; writes = refl; devices = (refl, (refl, record { values = refl; lanes = refl; spills = refl })) }) (λ job edges graphs values storable stores tell_graphs tell_values. tt)
   nothing_done (Some (Discard engines)) ready = not_dropped engines ready
 
   -- the call, where the beat that it ends with is one of the same number

@@ -33,7 +33,7 @@ returns-in_default g c = record {
         after = moment end.new.store end.new.meters.items end.new.seat.view end.new.beat;
       } in
       let made = is_made state faults job c.args.scale c.args.edges c.args.rng call end.new.source end.new.out c.new-text.result c.new-summary.result end.result c.new-text.ensures c.new-summary.ensures end.ensures.run in
-      let told = passed_on state faults job c.args.scale c.args.edges c.args.rng call end.new.out end.result c.in_default.not-Answered (prints_none out out refl) in
+      let told = passed_on state faults job c.args.scale c.args.edges c.args.rng call end.new.out end.result c.in_default.not-Answered (prints_none out out refl) refl in
       is_bench state faults job c.args.scale c.args.edges c.args.rng call end.new.source end.new.out end.result end.result made told
       (λ fits. no_bad_line_of state faults job c.args.scale c.args.edges c.args.rng call end.new.source end.new.out end.result end.result made told
       (λ line. c.made_text_is_well_formed.ensures job.vertices (text_limit job.chunk) c.args.scale c.args.edges c.args.rng line fits)) refl refl;
