@@ -4,8 +4,9 @@ use Rattle.std.specs.List.{All, range_with_len, sum_by}
 use Rattle.std.specs.Vec.{with_items}
 use Rattle.std.proofs.lemmas.List.{get_or-map, length-map}
 use Rattle.graph_model.specs.Programs.{Rules}
-use Rattle.ports.specs.Devices.{NoneRose, SameCounts}
-use Rattle.ports.specs.Disk.{DiskState}
+use Rattle.ports.specs.Devices.{Each, NoneRose, SameCounts}
+use Rattle.ports.specs.Disk.{DiskState, ContinuesUnder}
+use Rattle.ports.specs.Stops.{Empties}
 use Rattle.ports.specs.Faults.{Rose}
 use Rattle.ports.proofs.Rising.{count_rose_before}
 use Rattle.chunk_object.specs.History.{most_chunks}
@@ -26,6 +27,7 @@ use Rattle.gather_phase.specs.declared.desk.GatherRoom.{GatherRoom}
 use Rattle.gather_phase.specs.Rooms.{IsRoom}
 use Rattle.gather_phase.specs.Phases.{MayStopBy}
 use Rattle.worker_outcomes.specs.Lowest.{lowest_outcome}
+use Rattle.worker_outcomes.specs.declared.epoch_end.EpochEnd.{EpochEnd}
 use Rattle.worker_outcomes.proofs.Lowest.{all_done, is_of, own_outcome, lowest_meets}
 use Rattle.epoch_seats.specs.Between.{HasEnded}
 use Rattle.epoch_seats.specs.Seats.{AreNewSeats, AreSeats, epoch_with}
@@ -34,8 +36,7 @@ use Rattle.epoch_seats.proofs.Worked as seated
 use Rattle.epoch_seats.proofs.Made.{list_is}
 use Rattle.list_moves.proofs.Moving.{given_back}
 use Rattle.list_moves.proofs.Desks.{some_of, at_desk, same_len, listed, same_by}
-use Rattle.gather_epoch.specs.declared.crew.Gathered.{Gathered}
-use Rattle.gather_epoch.specs.Desks.{IsLater, IsReady, HasWorkedAt}
+use Rattle.gather_epoch.specs.Desks.{IsReady, HasWorkedAt}
 use Rattle.gather_epoch.specs.Dealing.{seat_at, meter_at, replicas_at, spill_at, room_at, number_at, outcome_at, claims_at, admitted_at, AreDealt}
 use Rattle.gather_epoch.specs.Gathering.{GoesOn, SomeCountRose, RoseOfOne, HasGatheredBy, HasGatheredAs, HaveGathered}
 
@@ -96,7 +97,7 @@ module _ {P D G M : Type 0} (rules : P → Rules) (state : D → DiskState) (fau
       rooms_still = listed room_at (IsRoom c.serving.job.now) done rooms' back.rooms_are (λ w d below. (worked w d (omega (arith, all))).room)
 
       pub made : the_terms.engines ≤ 8 → the_terms.partitions ≤ 64 → ((cursor : ℕ) → the_lens cursor ≤ most_chunks) → (old new : View) → HasEnded the_terms old new (epoch_with the_lens seats')
-          → (result : Gathered) → result.outcome ≡ lowest_outcome (map outcome_at done) → result.claims ≡ min (sum_by claims_at done) (2 ^ 64 - 1) → result.admitted ≡ min (sum_by admitted_at done) (2 ^ 64 - 1)
+          → (result : EpochEnd) → result.outcome ≡ lowest_outcome (map outcome_at done) → result.claims ≡ min (sum_by claims_at done) (2 ^ 64 - 1) → result.admitted ≡ min (sum_by admitted_at done) (2 ^ 64 - 1)
           → HasMadeEpoch the_terms the_lens (result.outcome ≡ Done) old new result.claims result.admitted (epoch_with the_lens seats')
       made few few_partitions small old new ended result outcome took helped =
           subst (λ (o : Outcome). HasMadeEpoch the_terms the_lens (o ≡ Done) old new result.claims result.admitted (epoch_with the_lens seats')) (sym outcome)
@@ -104,7 +105,7 @@ module _ {P D G M : Type 0} (rules : P → Rules) (state : D → DiskState) (fau
           few few_partitions small old new ended result.claims result.admitted took helped)
 
       -- the outcome of a worker that is not done is that of the epoch
-      module _ (spills : List D) (later : (w : ℕ) (d : D) → w < length spills → IsLater state c.beat.now (get_or spills w d) (get_or emptied w d)) (all_spills : length spills ≡ the_terms.engines) where
+      module _ (spills : List D) (later : (w : ℕ) (d : D) → w < length spills → ContinuesUnder c.beat.now (state (get_or spills w d)) (state (get_or emptied w d))) (all_spills : length spills ≡ the_terms.engines) where
         module _ (w : ℕ) (below : w < the_terms.engines) where
           pub within : w < length desks
           within = omega (arith, all_desks)
@@ -128,7 +129,7 @@ module _ {P D G M : Type 0} (rules : P → Rules) (state : D → DiskState) (fau
             spill_is : get_or spills' w d ≡ spill_at (get_or done w desk)
             spill_is = sym (at_desk spill_at done spills' back.spills_are w desk d within_done)
 
-            step : IsLater state c.beat.now (get_or spills w d) (get_or emptied w d)
+            step : ContinuesUnder c.beat.now (state (get_or spills w d)) (state (get_or emptied w d))
             step = later w d (omega (arith, all_spills))
 
             pub goes_on : GoesOn state faults (get_or meters w m) (get_or meters' w m) (get_or spills w d) (get_or spills' w d)
@@ -209,7 +210,7 @@ module _ {P D G M : Type 0} (rules : P → Rules) (state : D → DiskState) (fau
         pub stopped_by : lowest_outcome all_outcomes ≢ Done → MayStopBy rules state c (lowest_outcome all_outcomes)
         stopped_by = lowest_meets outcome_at done (MayStopBy rules state c) (λ w below. some_of done w below) (λ w below. (worked w (some_of done w below) (omega (arith, all))).stopped)
 
-        pub have_gathered : (old new : View) (result : Gathered) → result.outcome ≡ lowest_outcome all_outcomes → HasMadeEpoch the_terms the_lens (result.outcome ≡ Done) old new result.claims result.admitted (epoch_with the_lens seats')
+        pub have_gathered : (old new : View) (result : EpochEnd) → result.outcome ≡ lowest_outcome all_outcomes → HasMadeEpoch the_terms the_lens (result.outcome ≡ Done) old new result.claims result.admitted (epoch_with the_lens seats')
             → HaveGathered rules state faults c old new meters meters' spills spills' replicas' result
         have_gathered old new result outcome has_made = record {
           epoch = epoch_with the_lens seats';
@@ -221,19 +222,18 @@ module _ {P D G M : Type 0} (rules : P → Rules) (state : D → DiskState) (fau
         }
 
 -- Devices that were emptied in the list where they are kept.
-module _ {D Z : Type 0} (state : D → DiskState) (number : ℕ) (spills : Vec D Z) (lent news : List D) (same : lent ≡ spills.items) (many : length news ≡ length lent)
-    (steps : (w : ℕ) (d : D) → w < length lent → IsLater state number (get_or lent w d) (get_or news w d)) where
+module _ {D Z : Type 0} (state : D → DiskState) (number : ℕ) (spills : Vec D Z) (lent news : List D) (same : lent ≡ spills.items) (cut : Each state (Empties number) lent news) where
   news_are : (with_items spills news).items ≡ news
-  news_are = given_back spills lent news same many
+  news_are = given_back spills lent news same cut.many
 
-  pub emptied_steps : (w : ℕ) (d : D) → w < length spills.items → IsLater state number (get_or spills.items w d) (get_or (with_items spills news).items w d)
+  pub emptied_steps : (w : ℕ) (d : D) → w < length spills.items → ContinuesUnder number (state (get_or spills.items w d)) (state (get_or (with_items spills news).items w d))
   emptied_steps w d below =
-      subst (λ l. IsLater state number (get_or spills.items w d) (get_or l w d)) (sym news_are)
-      (subst (λ l. IsLater state number (get_or l w d) (get_or news w d)) same (steps w d (omega (arith, below, ap (λ l. length l) same))))
+      subst (λ l. ContinuesUnder number (state (get_or spills.items w d)) (state (get_or l w d))) (sym news_are)
+      (subst (λ l. ContinuesUnder number (state (get_or l w d)) (state (get_or news w d))) same (cut.each w d (omega (arith, below, ap (λ l. length l) same))).goes_on)
 
   pub emptied_early : All (λ d. (state d).beat ≤ number) spills.items → All (λ d. (state d).beat ≤ number) (with_items spills news).items
   emptied_early early w d below =
-      let within : w < length spills.items = omega (arith, below, ap (λ l. length l) news_are, many, ap (λ l. length l) same) in
+      let within : w < length spills.items = omega (arith, below, ap (λ l. length l) news_are, cut.many, ap (λ l. length l) same) in
       (emptied_steps w d within).beat (early w d within)
 
   pub emptied_size : All (λ d. (state d).size ≡ 0) news → All (λ d. (state d).size ≡ 0) (with_items spills news).items

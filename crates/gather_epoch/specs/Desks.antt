@@ -13,13 +13,6 @@ use Rattle.gather_phase.specs.Rooms.{IsRoom}
 use Rattle.gather_phase.specs.Phases.{MayStopBy}
 use Rattle.gather_phase.specs.Gathered.{HasGathered, HasFaultCause}
 
-module _ {D : Type 0} (state : D → DiskState) where
-  -- a device after calls under beats up to this number
-  pub record IsLater (number : ℕ) (old new : D) : Type 0 where
-    pub beat : (state old).beat ≤ number → (state new).beat ≤ number
-    pub faults : (state old).faults ≤ (state new).faults
-    pub told : (bytes : List ℕ) → (state old).bytes ≡ Some bytes → (now : List ℕ) × ((state new).bytes ≡ Some now)
-
 module _ {P D G M : Type 0} (rules : P → Rules) (state : D → DiskState) (c : GatherContext P D G M) where
   -- a worker may begin at its desk
   pub record IsReady (desk : GatherDesk D M) : Type 0 where

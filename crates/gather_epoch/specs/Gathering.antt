@@ -24,8 +24,8 @@ use Rattle.gather_phase.specs.Gathering.{touched}
 use Rattle.gather_phase.specs.Gathered.{over_partition}
 use Rattle.gather_phase.specs.Phases.{MayStopBy}
 use Rattle.worker_outcomes.specs.Lowest.{lowest_outcome}
+use Rattle.worker_outcomes.specs.declared.epoch_end.EpochEnd.{EpochEnd}
 use Rattle.epoch_seats.specs.Made.{HasMadeEpoch}
-use Rattle.gather_epoch.specs.declared.crew.Gathered.{Gathered}
 
 module _ {D M : Type 0} (state : D → DiskState) (faults : M → ℕ) where
   -- the counts of faults of a worker's meter and of its device never fall, and a device that tells its bytes still does
@@ -63,7 +63,7 @@ module _ {P D G M : Type 0} (rules : P → Rules) (state : D → DiskState) (fau
     pub gathered : outcome ≡ Done → HasGatheredBy rules state c replicas spill' calls
 
   -- **The epoch was made**, and each worker has done its part of it, with an outcome of its own
-  pub record HaveGathered (before after : View) (meters meters' : List M) (spills spills' : List D) (replicas : List Replicas) (result : Gathered) : Type 0 where
+  pub record HaveGathered (before after : View) (meters meters' : List M) (spills spills' : List D) (replicas : List Replicas) (result : EpochEnd) : Type 0 where
     pub epoch : Epoch
     pub made : HasMadeEpoch (terms_of c.serving.job.now) (lens_of c.serving.index.now) (result.outcome ≡ Done) before after result.claims result.admitted epoch
     pub outcomes : List Outcome
@@ -73,7 +73,7 @@ module _ {P D G M : Type 0} (rules : P → Rules) (state : D → DiskState) (fau
         → HasGatheredAs (slice_index_or meters w m) (slice_index_or meters' w m) (slice_index_or spills w d) (slice_index_or spills' w d) (slice_index_or replicas w r) w (list_of epoch w) (slice_index_or outcomes w o)
 
   -- no epoch was begun, since a device could not be emptied
-  pub record IsNotBegun (before after : View) (result : Gathered) : Type 0 where
+  pub record IsNotBegun (before after : View) (result : EpochEnd) : Type 0 where
     pub same : after ≡ before
     pub outcome_is : result.outcome ≡ DiskFault
     pub none : (result.claims ≡ 0) × (result.admitted ≡ 0)

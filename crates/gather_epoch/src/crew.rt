@@ -9,7 +9,6 @@ use graph_model::Job;
 use list_moves::put_last;
 use ports::{Disk, Memory};
 use std::alloc::Global;
-use store_reader::Outcome;
 
 /// The buffers of all workers, and room for their desks and seats. It is made once, so that an epoch takes no memory.
 #[derive(Drop)]
@@ -17,17 +16,6 @@ pub struct GatherCrew<D: Disk> {
     pub(crate) rooms: Vec<GatherRoom>,
     pub(crate) desks: Vec<GatherDesk<D>>,
     pub(crate) seats: Vec<CursorSeat>,
-}
-
-/// What an epoch came to.
-#[derive(Clone, Copy)]
-pub struct Gathered {
-    /// That of the lowest worker that is not done.
-    pub outcome: Outcome,
-    /// How many chunks were taken.
-    pub claims: u64,
-    /// How often help was admitted.
-    pub admitted: u64,
 }
 
 impl<D: Disk> GatherCrew<D> {

@@ -1,26 +1,26 @@
 //! A gather epoch.
-ghost use Rattle.std.specs.Prelude.{◌≡◌, ◌≢◌, ◌⊎◌, ℕ, ◌<◌, ◌≤◌, All, OnOk, OnErr, length, vec_len, vec_capacity, slice_index_or};
-ghost use Rattle.ports.specs.Devices.{OneRose, NoneRose, SameCounts};
-ghost use Rattle.ports.specs.Faults.{HasCause};
+ghost use Rattle.std.specs.Prelude.{◌≡◌, ◌≢◌, ◌⊎◌, ℕ, ◌<◌, ◌≤◌, All, length, vec_len, vec_capacity, slice_index_or};
+ghost use Rattle.ports.specs.Devices.{NoneRose, SameCounts};
 ghost use Rattle.replica_merge.specs.Accumulators.{split_of};
 ghost use Rattle.store_reader.specs.Indexed.{IsServing};
 ghost use Rattle.gather_phase.specs.Phases.{MayStopBy};
 ghost use Rattle.epoch_seats.specs.Between.{IsBetweenEpochs};
 ghost use Rattle.gather_epoch.specs.Crews.{IsCrew};
-ghost use Rattle.gather_epoch.specs.Desks.{IsLater, IsReady, HasWorkedAt};
+ghost use Rattle.gather_epoch.specs.Desks.{IsReady, HasWorkedAt};
 ghost use Rattle.gather_epoch.specs.Gathering.{GoesOn, RoseOfOne, HaveGathered, IsNotBegun};
 
-use crate::crew::{GatherCrew, Gathered};
+use crate::crew::GatherCrew;
 use crate::moves::{collect, deal};
 use chunk_cursor::CursorSeat;
 use epoch_seats::{close_epoch, open_epoch};
 use gather_laws::VertexProgram;
 use gather_phase::{GatherContext, GatherDesk, gather_work};
 use phase_barrier::fork_all;
-use ports::{Beat, Disk, Failed, Gate};
+use ports::{Disk, Failed, Gate, cut_all};
 use replica_merge::Replicas;
 use std::thread::Threads;
 use store_reader::Outcome;
+use worker_outcomes::EpochEnd;
 
 /// Lets all workers gather the chunks of the context's index, each its share: worker w with meter w, with the
 /// accumulators `replicas[w]` and with the device `spills[w]`, which is emptied first. Where that fails no cursor is
@@ -33,7 +33,7 @@ pub fn gather_all<R: Threads + Sync, P: VertexProgram, D: Disk, G: Gate + Sync>(
     meters: &mut Vec<D::M>,
     replicas: &mut Vec<Replicas>,
     spills: &mut Vec<D>,
-) -> Gathered
+) -> EpochEnd
     requires serving { IsServing context.now.serving }
     requires table { seat.old.table ≡ context.now.serving.table.now }
     requires between { IsBetweenEpochs seat.old.view }
@@ -57,8 +57,8 @@ pub fn gather_all<R: Threads + Sync, P: VertexProgram, D: Disk, G: Gate + Sync>(
     ensures gathered { IsNotBegun P.rules D.state D.M.faults context.now seat.old.view seat.new.view result
         ⊎ HaveGathered P.rules D.state D.M.faults context.now seat.old.view seat.new.view meters.old.items meters.new.items spills.old.items spills.new.items replicas.new.items result }
 {
-    if let Err(Failed) = empty_all(spills, context.beat) {
-        return Gathered {
+    if let Err(Failed) = cut_all(spills, context.beat) {
+        return EpochEnd {
             outcome: Outcome::DiskFault,
             claims: 0,
             admitted: 0,
@@ -78,31 +78,6 @@ pub fn gather_all<R: Threads + Sync, P: VertexProgram, D: Disk, G: Gate + Sync>(
     let gathered = collect(crew, meters, replicas, spills);
     close_epoch(serving.table, seat, &mut crew.seats);
     gathered
-}
-
-/// Empties all devices, the lowest first, until a call fails.
-fn empty_all<D: Disk>(disks: &mut [D], beat: &Beat) -> Result<(), Failed>
-    requires beats { All (λ d. (D.state d).beat ≤ beat.now) disks.old }
-    ensures many { length disks.new ≡ length disks.old }
-    ensures steps { (w : ℕ) (d : D) → w < length disks.old → IsLater D.state beat.now (slice_index_or disks.old w d) (slice_index_or disks.new w d) }
-    ensures empty { OnOk result (All (λ d. (D.state d).size ≡ 0) disks.new) }
-    ensures cause { OnErr result (OneRose D.state disks.old disks.new) }
-    ensures calm { OnOk result (NoneRose D.state disks.old disks.new) }
-{
-    for disk in disks.iter_mut() {
-        empty(disk, beat)?;
-    }
-    Ok(())
-}
-
-/// Empties a device.
-fn empty<D: Disk>(disk: &mut D, beat: &Beat) -> Result<(), Failed>
-    requires { (D.state disk.old).beat ≤ beat.now }
-    ensures step { IsLater D.state beat.now disk.old disk.new }
-    ensures empty { OnOk result ((D.state disk.new).size ≡ 0) }
-    ensures cause { HasCause (D.state disk.old).faults (D.state disk.new).faults result }
-{
-    disk.cut(beat, 0)
 }
 
 /// One call of the work on each desk.

@@ -11,5 +11,5 @@ mod crew;
 mod epoch;
 mod moves;
 
-pub use crew::{GatherCrew, Gathered};
+pub use crew::GatherCrew;
 pub use epoch::gather_all;

@@ -4,13 +4,13 @@ ghost use Rattle.std.specs.List.{range_with_len};
 ghost use Rattle.worker_outcomes.specs.Lowest.{lowest_outcome};
 ghost use Rattle.gather_epoch.specs.Dealing.{number_at, outcome_at, claims_at, admitted_at, AreDealt};
 
-use crate::crew::{GatherCrew, Gathered};
+use crate::crew::GatherCrew;
 use gather_phase::GatherDesk;
 use list_moves::{put_last, take_first};
 use ports::Disk;
 use replica_merge::Replicas;
 use store_reader::Outcome;
-use worker_outcomes::lower_outcome;
+use worker_outcomes::{EpochEnd, lower_outcome};
 
 /// Puts a desk for each worker together, in order.
 pub(crate) fn deal<D: Disk>(
@@ -50,7 +50,7 @@ pub(crate) fn collect<D: Disk>(
     meters: &mut Vec<D::M>,
     replicas: &mut Vec<Replicas>,
     spills: &mut Vec<D>,
-) -> Gathered
+) -> EpochEnd
     requires empty { (vec_len crew.old.seats ≡ 0) × (vec_len meters.old ≡ 0) × (vec_len replicas.old ≡ 0) × (vec_len spills.old ≡ 0) × (vec_len crew.old.rooms ≡ 0) }
     requires room { (vec_len crew.old.desks ≤ vec_capacity crew.old.seats) × (vec_len crew.old.desks ≤ vec_capacity meters.old) × (vec_len crew.old.desks ≤ vec_capacity replicas.old) × (vec_len crew.old.desks ≤ vec_capacity spills.old) × (vec_len crew.old.desks ≤ vec_capacity crew.old.rooms) }
     ensures dealt { AreDealt crew.old.desks.items crew.new.seats.items meters.new.items replicas.new.items spills.new.items crew.new.rooms.items }
@@ -61,7 +61,7 @@ pub(crate) fn collect<D: Disk>(
     ensures empty { vec_len crew.new.desks ≡ 0 }
     ensures room { (vec_capacity crew.new.desks ≡ vec_capacity crew.old.desks) × (vec_capacity crew.old.seats ≤ vec_capacity crew.new.seats) × (vec_capacity meters.old ≤ vec_capacity meters.new) × (vec_capacity replicas.old ≤ vec_capacity replicas.new) × (vec_capacity spills.old ≤ vec_capacity spills.new) }
 {
-    let mut all = Gathered {
+    let mut all = EpochEnd {
         outcome: Outcome::Done,
         claims: 0,
         admitted: 0,

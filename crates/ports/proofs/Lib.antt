@@ -1,3 +1,5 @@
+pub mod Going
+pub mod InTurn
 pub mod Parts
 pub mod Rising
 pub mod Stops

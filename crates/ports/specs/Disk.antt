@@ -92,3 +92,18 @@ pub record Syncs {T E : Type 0} (number : ℕ) (old new : DiskState) (result : R
   pub settled : OnOk result (IsSettled new)
   pub size : new.size ≡ old.size
   pub cause : HasCause old.faults new.faults result
+
+-- a disk that told its bytes still does
+abbrev pub StillTells : (old new : DiskState) → Type 0
+StillTells old new = (bytes : List ℕ) → old.bytes ≡ Some bytes → (now : List ℕ) × (new.bytes ≡ Some now)
+
+-- A disk after calls, whatever they answered: its count of faults has not fallen, and it tells its bytes where it did.
+pub record Continues (old new : DiskState) : Type 0 where
+  pub faults : old.faults ≤ new.faults
+  pub told : StillTells old new
+
+-- the same after calls under beats up to this number
+pub record ContinuesUnder (number : ℕ) (old new : DiskState) : Type 0 where
+  pub beat : old.beat ≤ number → new.beat ≤ number
+  pub faults : old.faults ≤ new.faults
+  pub told : StillTells old new

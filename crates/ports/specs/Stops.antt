@@ -1,6 +1,7 @@
 -- What calls say of a stop at any moment since they began.
 use Rattle.std.specs.Prelude.{◌⊎◌, ℕ, ◌≤◌, suc, List, [], ◌∷◌}
-use Rattle.ports.specs.Disk.{DiskState}
+use Rattle.ports.specs.Bytes.{CutShort}
+use Rattle.ports.specs.Disk.{DiskState, After, ContinuesUnder}
 
 -- A stop at any moment since `old` leaves bytes that have P. All calls in between are of this beat or a later one.
 pub record Leaves (number : ℕ) (old new : DiskState) (P : List ℕ → Type 0) : Type 0 where
@@ -41,3 +42,9 @@ EachLeaves P (old ∷ olds) (new ∷ news) = LeavesByBeat old new (P 0 old) × E
 EachLeaves P [] [] = Unit {0}
 EachLeaves P (old ∷ olds) [] = ⊥
 EachLeaves P [] (new ∷ news) = ⊥
+
+-- A disk is being cut to nothing under the beat of this number: a stop leaves a front of an image from before.
+pub record Empties (number : ℕ) (old new : DiskState) : Type 0 where
+  pub leaves : Leaves number old new (After (CutShort 0) old)
+  pub size : new.size ≤ old.size
+  pub goes_on : ContinuesUnder number old new

@@ -8,6 +8,7 @@
 #![tactic(auto)]
 
 mod beat;
+mod cut;
 mod disk;
 mod faults;
 mod gate;
@@ -16,6 +17,7 @@ mod source;
 mod synced;
 
 pub use beat::Beat;
+pub use cut::cut_all;
 pub use disk::{Disk, Meter};
 pub use faults::{Failed, Memory};
 pub use gate::Gate;

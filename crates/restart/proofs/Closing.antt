@@ -37,7 +37,9 @@ closes_open number start synced new law changes settled size counted is_open run
       run
       (λ c after. torn_gate start c after.0 (as_before number start synced changes after.0 after.1) (settled_has synced IsOpenGraph settled is_open.gate after.0 after.1) after.2);
   size = omega (arith, is_open.whole);
-  beat = λ before. omega arith;
-  faults = omega arith;
-  told = λ bytes is. let then = told_on Same start.bytes synced.bytes changes.bytes bytes is in told_on (Torn 0 1) synced.bytes new.bytes written then.0 then.1;
+  goes_on = record {
+    beat = λ before. omega arith;
+    faults = omega arith;
+    told = λ bytes is. let then = told_on Same start.bytes synced.bytes changes.bytes bytes is in told_on (Torn 0 1) synced.bytes new.bytes written then.0 then.1;
+  };
 }

@@ -5,14 +5,14 @@ use Rattle.std.specs.List.{All}
 use Rattle.std.proofs.lemmas.List.{get_or-take, length-take}
 use Rattle.ports.specs.Bytes.{CutShort}
 use Rattle.ports.specs.Disk.{DiskState, IsDisk, InEveryImage, After}
-use Rattle.ports.specs.Stops.{Leaves, LeavesByBeat, EachLeaves, EachImage, AreImages, IsStop}
+use Rattle.ports.specs.Stops.{Leaves, LeavesByBeat, EachLeaves, EachImage, AreImages, IsStop, Empties}
 use Rattle.ports.proofs.Parts.{cut_same}
 use Rattle.ports.proofs.Stops.{weaker, by_beat, by_beat_weaker, in_turn, later_beat, started_by_beat, each_leaves, each_of_stop, each_image_weaker}
 use Rattle.ports.specs.Devices.{Each, OneRose}
 use Rattle.ports.proofs.Rising.{one_rose_before}
 use Rattle.store_model.specs.Heads.{IsShutGraph}
 use Rattle.store_model.specs.Kept.{IsUnprepared}
-use Rattle.restart.specs.Dropping.{IsAsBeforeOrShut, WhileDropped, WhileEmptied, Closes, Empties}
+use Rattle.restart.specs.Dropping.{IsAsBeforeOrShut, WhileDropped, WhileEmptied, Closes}
 
 -- a front of a graph device that is not open is not open
 cut_shut : (size : ℕ) (old new : List ℕ) → CutShort size old new → IsShutGraph old → IsShutGraph new
@@ -29,7 +29,7 @@ pub graph_dropped : (number last : ℕ) (start mid new : DiskState) → IsDisk m
 graph_dropped number last start mid new law beat closes shut empties =
     let emptied : Leaves (number + 1) mid new IsShutGraph = weaker (number + 1) mid new (After (CutShort 0) mid) IsShutGraph empties.leaves (λ c after. cut_shut 0 after.0 c after.2 (shut after.0 after.1)) in
     by_beat_weaker start new (λ b c. ((b < number + 1) × IsAsBeforeOrShut start c) ⊎ ((number + 1 ≤ b) × IsShutGraph c)) (λ b c. b ≤ last → WhileDropped (number + 1) start b c)
-    (in_turn number (number + 1) start mid new (IsAsBeforeOrShut start) IsShutGraph law (closes.beat beat) (omega arith) closes.leaves emptied shut)
+    (in_turn number (number + 1) start mid new (IsAsBeforeOrShut start) IsShutGraph law (closes.goes_on.beat beat) (omega arith) closes.leaves emptied shut)
     (λ b c claim _. elim claim [
       | inl first ↦ record { always = first.1; shut = λ second. absurd (omega (arith, first.0, second)) }
       | inr second ↦ record { always = inr second.1; shut = λ _. second.1 }
@@ -129,4 +129,4 @@ stops_of_drop number last olds news olds' news' dropped emptied b graphs values 
 -- The cause of a fault: a count that rose in the second beat is higher than at the start.
 pub rose_later : {X : Type 0} (state : X → DiskState) (number : ℕ) (olds mids news : List X) → Each state (Closes number) olds mids → OneRose state mids news → OneRose state olds news
 rose_later state number olds mids news closes rose =
-    one_rose_before (λ x. (state x).faults) olds mids news closes.many (λ k d within. (closes.each k d within).faults) rose
+    one_rose_before (λ x. (state x).faults) olds mids news closes.many (λ k d within. (closes.each k d within).goes_on.faults) rose

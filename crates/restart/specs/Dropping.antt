@@ -1,7 +1,7 @@
 -- What dropping a store leaves of its devices.
-use Rattle.std.specs.Prelude.{◌≡◌, ◌⊎◌, ℕ, ◌<◌, ◌≤◌, List, [], Some}
+use Rattle.std.specs.Prelude.{◌≡◌, ◌⊎◌, ℕ, ◌<◌, ◌≤◌, List, []}
 use Rattle.ports.specs.Bytes.{CutShort}
-use Rattle.ports.specs.Disk.{DiskState, InEveryImage, After}
+use Rattle.ports.specs.Disk.{DiskState, InEveryImage, After, Continues, ContinuesUnder}
 use Rattle.ports.specs.Stops.{Leaves}
 use Rattle.store_model.specs.Heads.{IsShutGraph}
 
@@ -25,29 +25,14 @@ pub record IsEmpty (disk : DiskState) : Type 0 where
   pub size : disk.size ≡ 0
   pub images : InEveryImage disk (λ c. c ≡ [])
 
--- a device that told its bytes still does
-abbrev pub StillTells : (old new : DiskState) → Type 0
-StillTells old new = (bytes : List ℕ) → old.bytes ≡ Some bytes → (now : List ℕ) × (new.bytes ≡ Some now)
-
 -- What is left of a device whatever the answer: no bytes behind its old end, no later beat, no lower count.
 pub record HandsBack (number : ℕ) (old new : DiskState) : Type 0 where
   pub size : new.size ≤ old.size
   pub beat : new.beat ≤ number
-  pub faults : old.faults ≤ new.faults
-  pub told : StillTells old new
+  pub later : Continues old new
 
 -- the gate of a graph device is being closed
 pub record Closes (number : ℕ) (old new : DiskState) : Type 0 where
   pub leaves : Leaves number old new (IsAsBeforeOrShut old)
   pub size : new.size ≡ old.size
-  pub beat : old.beat ≤ number → new.beat ≤ number
-  pub faults : old.faults ≤ new.faults
-  pub told : StillTells old new
-
--- a device is being emptied
-pub record Empties (number : ℕ) (old new : DiskState) : Type 0 where
-  pub leaves : Leaves number old new (After (CutShort 0) old)
-  pub size : new.size ≤ old.size
-  pub beat : old.beat ≤ number → new.beat ≤ number
-  pub faults : old.faults ≤ new.faults
-  pub told : StillTells old new
+  pub goes_on : ContinuesUnder number old new

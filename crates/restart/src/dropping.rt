@@ -3,12 +3,12 @@ ghost use Rattle.std.specs.Prelude.{◌≡◌, ◌⊎◌, ℕ, ◌+◌, ◌^◌,
 ghost use Rattle.std.specs.List.{All};
 ghost use Rattle.ports.specs.Disk.{InEveryImage};
 ghost use Rattle.ports.specs.Faults.{HasCause, HasCauseOfTwo, Rose};
-ghost use Rattle.ports.specs.Stops.{EachLeaves, IsStop, AreImages};
+ghost use Rattle.ports.specs.Stops.{EachLeaves, IsStop, AreImages, Empties};
 ghost use Rattle.ports.specs.Devices.{Each, OneRose, NoneRose, EachRow, OneRowRose, NoRowRose};
 ghost use Rattle.store_model.specs.Heads.{IsShutGraph};
 ghost use Rattle.store_model.specs.Kept.{IsUnprepared};
 ghost use Rattle.store_reader.specs.Devices.{IsOpenDevice, IsShutDevice};
-ghost use Rattle.restart.specs.Dropping.{Closes, Empties, HandsBack, IsEmpty, WhileDropped, WhileEmptied};
+ghost use Rattle.restart.specs.Dropping.{Closes, HandsBack, IsEmpty, WhileDropped, WhileEmptied};
 
 use ports::{Beat, Disk, Failed, cut_synced, write_synced};
 use store_reader::Store;

@@ -1,7 +1,8 @@
 -- Devices, meters and counts from one step to the next.
 use Rattle.std.proofs.Common.{◌≡◌, ℕ, List, Vec, length, get_or, inl, inr, refl, ◌∙◌, arith}
 use Rattle.std.specs.Global.{Global}
-use Rattle.ports.specs.Disk.{DiskState}
+use Rattle.ports.specs.Disk.{DiskState, Continues, ContinuesUnder}
+use Rattle.ports.proofs.Going.{continues_same, continues_then, under_any, each_same, each_then, each_means, rows_same, rows_then, rows_means}
 use Rattle.ports.proofs.Rising.{one_rose_before, one_rose_after}
 use Rattle.ports.specs.Devices.{OneRose, MetersGoOn}
 use Rattle.store_reader.specs.declared.store.Store.{Store}
@@ -15,38 +16,31 @@ use Rattle.round_loop.specs.Keeping.{AreLater, AreLaterRows, Keeps, IsTold}
 
 module _ {D : Type 0} (state : D → DiskState) where
   pub same_devices : (xs : List D) → AreLater state xs xs
-  same_devices xs = record { many = refl; faults = λ e d within. omega arith; told = λ e d bytes within is. (bytes, is) }
+  same_devices xs = each_same state Continues continues_same xs
 
   pub then_devices : (xs ys zs : List D) → AreLater state xs ys → AreLater state ys zs → AreLater state xs zs
-  then_devices xs ys zs first next = record {
-    many = next.many ∙ first.many;
-    faults = λ e d within. omega (arith, first.faults e d within, next.faults e d (omega (arith, first.many)));
-    told = λ e d bytes within is. let mid = first.told e d bytes within is in next.told e d mid.0 (omega (arith, first.many)) mid.1;
-  }
+  then_devices xs ys zs first next = each_then state Continues continues_then xs ys zs first next
 
   of_going : (number : ℕ) (xs ys : List D) → GoOn state number xs ys → AreLater state xs ys
-  of_going number xs ys going = record { many = going.many; faults = going.later; told = going.told }
+  of_going number xs ys going = each_means state (ContinuesUnder number) Continues (under_any number) xs ys going
 
   still_told : (xs ys : List D) → AreLater state xs ys → Tell state xs → Tell state ys
-  still_told xs ys later tell = λ e d within. let was = tell e d (omega (arith, later.many)) in later.told e d was.0 (omega (arith, later.many)) was.1
+  still_told xs ys later tell = λ e d within. let was = tell e d (omega (arith, later.many)) in (later.each e d (omega (arith, later.many))).told was.0 was.1
 
   rose_before : (xs ys zs : List D) → OneRose state xs ys → AreLater state ys zs → length ys ≡ length xs → OneRose state xs zs
-  rose_before xs ys zs rose later many = one_rose_after (λ d. (state d).faults) xs ys zs many rose (λ e d below. later.faults e d (omega (arith, below, many)))
+  rose_before xs ys zs rose later many = one_rose_after (λ d. (state d).faults) xs ys zs many rose (λ e d below. (later.each e d (omega (arith, below, many))).faults)
 
   pub rose_after : (xs ys zs : List D) → AreLater state xs ys → OneRose state ys zs → OneRose state xs zs
-  rose_after xs ys zs later rose = one_rose_before (λ d. (state d).faults) xs ys zs later.many later.faults rose
+  rose_after xs ys zs later rose = one_rose_before (λ d. (state d).faults) xs ys zs later.many (λ e d below. (later.each e d below).faults) rose
 
   pub same_rows : (xs : List (Vec D Global)) → AreLaterRows state xs xs
-  same_rows xs = record { many = refl; each = λ w row within. same_devices (get_or xs w row).items }
+  same_rows xs = rows_same state Continues continues_same xs
 
   pub then_rows : (xs ys zs : List (Vec D Global)) → AreLaterRows state xs ys → AreLaterRows state ys zs → AreLaterRows state xs zs
-  then_rows xs ys zs first next = record {
-    many = next.many ∙ first.many;
-    each = λ w row within. then_devices (get_or xs w row).items (get_or ys w row).items (get_or zs w row).items (first.each w row within) (next.each w row (omega (arith, first.many)));
-  }
+  then_rows xs ys zs first next = rows_then state Continues continues_then xs ys zs first next
 
   of_rows : (number : ℕ) (xs ys : List (Vec D Global)) → RowsGoOn state number xs ys → AreLaterRows state xs ys
-  of_rows number xs ys going = record { many = going.many; each = λ w row within. of_going number (get_or xs w row).items (get_or ys w row).items (going.each w row within) }
+  of_rows number xs ys going = rows_means state (ContinuesUnder number) Continues (under_any number) xs ys going
 
   rows_told : (xs ys : List (Vec D Global)) → AreLaterRows state xs ys → RowsTell state xs → RowsTell state ys
   rows_told xs ys later tell = λ w row within. still_told (get_or xs w row).items (get_or ys w row).items (later.each w row (omega (arith, later.many))) (tell w row (omega (arith, later.many)))

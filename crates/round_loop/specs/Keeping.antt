@@ -1,7 +1,8 @@
 -- What a run leaves as it was, and all that it is handed at one moment.
 use Rattle.std.specs.Prelude.{◌≡◌, ℕ, ◌<◌, ◌≤◌, Some, List, Vec, length, slice_index_or}
 use Rattle.std.specs.Global.{Global}
-use Rattle.ports.specs.Disk.{DiskState}
+use Rattle.ports.specs.Disk.{DiskState, Continues}
+use Rattle.ports.specs.Devices.{Each, EachRow}
 use Rattle.chunk_cursor.specs.declared.view.View.{View}
 use Rattle.store_reader.specs.declared.store.Store.{Store}
 use Rattle.round_steps.specs.Going.{Tell}
@@ -9,15 +10,12 @@ use Rattle.scatter_epoch.specs.Sent.{RowsTell}
 
 module _ {D : Type 0} (state : D → DiskState) where
   -- devices after some calls, each in its place: no count of faults falls, and what tells its bytes still does
-  pub record AreLater (old new : List D) : Type 0 where
-    pub many : length new ≡ length old
-    pub faults : (e : ℕ) (d : D) → e < length old → (state (slice_index_or old e d)).faults ≤ (state (slice_index_or new e d)).faults
-    pub told : (e : ℕ) (d : D) (bytes : List ℕ) → e < length old → (state (slice_index_or old e d)).bytes ≡ Some bytes → (now : List ℕ) × ((state (slice_index_or new e d)).bytes ≡ Some now)
+  abbrev pub AreLater : (old new : List D) → Type 0
+  AreLater old new = Each state Continues old new
 
   -- the same of rows of devices
-  pub record AreLaterRows (old new : List (Vec D Global)) : Type 0 where
-    pub many : length new ≡ length old
-    pub each : (w : ℕ) (row : Vec D Global) → w < length old → AreLater (slice_index_or old w row).items (slice_index_or new w row).items
+  abbrev pub AreLaterRows : (old new : List (Vec D Global)) → Type 0
+  AreLaterRows old new = EachRow state Continues old new
 
 module _ {D M : Type 0} (state : D → DiskState) where
   -- **All devices are in their places**, and no graph device was touched

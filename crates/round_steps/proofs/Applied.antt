@@ -36,9 +36,11 @@ module _ {D : Type 0} (state : D → DiskState) (t : RoundTerms) (olds news : Li
   keeps_others applies later stores = record {
     going = record {
       many = later.many;
-      beats = λ e d below _. (applies e d below).beat;
-      later = later.each;
-      told = λ e d bytes below told. told_on (SameOther (own_in t.split e) (slot_of t.round)) (state (slice_index_or olds e d)).bytes (state (slice_index_or news e d)).bytes (applies e d below).bytes bytes told;
+      each = λ e d below. record {
+        beat = λ _. (applies e d below).beat;
+        faults = later.each e d below;
+        told = told_on (SameOther (own_in t.split e) (slot_of t.round)) (state (slice_index_or olds e d)).bytes (state (slice_index_or news e d)).bytes (applies e d below).bytes;
+      };
     };
     sizes = λ e d below. (applies e d below).size;
     bytes = λ e d below. (applies e d below).bytes;

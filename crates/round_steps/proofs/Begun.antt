@@ -19,7 +19,7 @@ use Rattle.gather_phase.specs.declared.desk.GatherContext.{GatherContext}
 use Rattle.gather_phase.specs.Phases.{Takes, MayStopBy}
 use Rattle.epoch_seats.specs.Between.{IsBetweenEpochs}
 use Rattle.epoch_seats.specs.Made.{HasMadeEpoch}
-use Rattle.gather_epoch.specs.declared.crew.Gathered.{Gathered}
+use Rattle.worker_outcomes.specs.declared.epoch_end.EpochEnd.{EpochEnd}
 use Rattle.gather_epoch.specs.Gathering.{HaveGathered, IsNotBegun}
 use Rattle.round_steps.specs.Epochs.{IsWhole, HasFewChunks}
 use Rattle.round_steps.specs.Rounds.{MakesFirst}
@@ -34,7 +34,7 @@ whole_one terms lens IsThrough before after took helped epoch made through = rec
 pub few_of : (lens : ℕ → ℕ) (epoch : Epoch) → epoch.lens ≡ lens → ((cursor : ℕ) → lens cursor ≤ most_chunks) → HasFewChunks epoch
 few_of lens epoch are few cursor = subst (λ (l : ℕ → ℕ). l cursor ≤ most_chunks) (sym are) (few cursor)
 
-module _ {P D G M : Type 0} (rules : P → Rules) (state : D → DiskState) (faults : M → ℕ) (c : GatherContext P D G M) (before after : View) (meters meters' : List M) (spills spills' : List D) (replicas : List Replicas) (result : Gathered) where
+module _ {P D G M : Type 0} (rules : P → Rules) (state : D → DiskState) (faults : M → ℕ) (c : GatherContext P D G M) (before after : View) (meters meters' : List M) (spills spills' : List D) (replicas : List Replicas) (result : EpochEnd) where
   abbrev pub Either : Type 0
   Either = IsNotBegun rules state faults c before after result ⊎ HaveGathered rules state faults c before after meters meters' spills spills' replicas result
 

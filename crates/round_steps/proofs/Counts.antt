@@ -28,9 +28,9 @@ module _ {D M : Type 0} (state : D → DiskState) (faults : M → ℕ) (engines 
   pub spills_go_on : (number : ℕ) → length meters ≡ engines → length spills ≡ engines → length spills' ≡ engines → All (λ d. (state d).beat ≤ number) spills' → EachGoesOn → GoOn state number spills spills'
   spills_go_on number meters_many many many' beats goes_on = record {
     many = omega arith;
-    beats = λ e d below _. beats e d (omega (arith, below));
-    later = λ e d below. (goes_on e (some_of meters e (omega (arith, below))) d (omega (arith, below))).writes;
-    told = λ e d bytes below told. (goes_on e (some_of meters e (omega (arith, below))) d (omega (arith, below))).told bytes told;
+    each = λ e d below.
+        let one = goes_on e (some_of meters e (omega (arith, below))) d (omega (arith, below)) in
+        record { beat = λ _. beats e d (omega (arith, below)); faults = one.writes; told = one.told };
   }
 
   pub rose_of_one : length meters ≡ engines → length meters' ≡ engines → length spills ≡ engines → length spills' ≡ engines → RoseOfOne state faults engines meters meters' spills spills' → OneCountRose faults meters meters' ⊎ OneRose state spills spills'
@@ -73,4 +73,4 @@ module _ {D : Type 0} (state : D → DiskState) where
   pub tell_still : (number : ℕ) (old new : List D) → GoOn state number old new → Tell state old → Tell state new
   tell_still number old new goes_on tell e d below =
       let within : e < length old = omega (arith, below, goes_on.many) in
-      let told = tell e d within in goes_on.told e d told.0 within told.1
+      let told = tell e d within in (goes_on.each e d within).told told.0 told.1

@@ -26,8 +26,7 @@ use Rattle.scatter_phase.specs.declared.desk.ScatterContext.{ScatterContext}
 use Rattle.scatter_phase.specs.Phases as scattering
 use Rattle.chunk_cursor.specs.declared.view.View.{View}
 use Rattle.replica_merge.specs.declared.replicas.Replicas.{Replicas}
-use Rattle.gather_epoch.specs.declared.crew.Gathered.{Gathered}
-use Rattle.scatter_epoch.specs.declared.crew.Scattered.{Scattered}
+use Rattle.worker_outcomes.specs.declared.epoch_end.EpochEnd.{EpochEnd}
 use Rattle.scatter_epoch.specs.Scattering.{HaveScattered}
 use Rattle.scatter_epoch.specs.Sent.{IsOfRows, RowsTell}
 use Rattle.round_steps.specs.Standing.{IsSound}
@@ -105,7 +104,7 @@ module _ {D M : Type 0} (state : D → DiskState) where
             (subst (λ t. IfSome t (NoChunkIn update_layout serving.split.now serving.job.now.chunk refused.partition place.at)) told refused.refuses.none);
       })
 
-module _ {P D G M : Type 0} (rules : P → Rules) (state : D → DiskState) (faults : M → ℕ) (c : GatherContext P D G M) (before after : View) (meters meters' : List M) (spills spills' : List D) (replicas : List Replicas) (result : Gathered)
+module _ {P D G M : Type 0} (rules : P → Rules) (state : D → DiskState) (faults : M → ℕ) (c : GatherContext P D G M) (before after : View) (meters meters' : List M) (spills spills' : List D) (replicas : List Replicas) (result : EpochEnd)
     (either : Either rules state faults c before after meters meters' spills spills' replicas result) where
   -- where edges are counted
   pub counts_names : (result.outcome ≢ Done → gathering.MayStopBy rules state c result.outcome) → c.counting ≡ true → (graphs : List D) → IsOnGraphs state c.serving graphs
@@ -133,7 +132,7 @@ module _ {P D G M : Type 0} (rules : P → Rules) (state : D → DiskState) (fau
           refused_updates state c.serving rows on serves part engine at found.0 found.1
       of Memory why = tt
 
-module _ {P D G M : Type 0} (rules : P → Rules) (state : D → DiskState) (faults : M → ℕ) (c : ScatterContext P D G M) (before after : View) (meters meters' : List M) (rows rows' : List (Vec D Global)) (index : List (List Place)) (result : Scattered)
+module _ {P D G M : Type 0} (rules : P → Rules) (state : D → DiskState) (faults : M → ℕ) (c : ScatterContext P D G M) (before after : View) (meters meters' : List M) (rows rows' : List (Vec D Global)) (index : List (List Place)) (result : EpochEnd)
     (have : HaveScattered rules state faults c before after meters meters' rows rows' index result) where
   -- where edges send
   pub scatters_names : (result.outcome ≢ Done → scattering.MayStopBy rules state c result.outcome) → (graphs : List D) → IsOnGraphs state c.serving graphs

@@ -25,7 +25,7 @@ use Rattle.gather_phase.specs.declared.desk.GatherContext.{GatherContext}
 use Rattle.gather_phase.specs.Gathered.{over_partition}
 use Rattle.gather_phase.specs.Phases.{Takes, MayStopBy}
 use Rattle.worker_outcomes.specs.Lowest.{lowest_outcome}
-use Rattle.gather_epoch.specs.declared.crew.Gathered.{Gathered}
+use Rattle.worker_outcomes.specs.declared.epoch_end.EpochEnd.{EpochEnd}
 use Rattle.gather_epoch.specs.Gathering.{HasGatheredBy, HaveGathered}
 use Rattle.epoch_laws.specs.Phases.{counted, gathered, merged_over}
 use Rattle.apply_round.specs.Made.{AreMerged}
@@ -48,7 +48,7 @@ module _ {P D G M : Type 0} (rules : P → Rules) (state : D → DiskState) (c :
   gathers_soundly Memory why items takes = tt
 
 module _ {P D G M : Type 0} (rules : P → Rules) (state : D → DiskState) (faults : M → ℕ) (c : GatherContext P D G M) where
-  module _ (before after : View) (meters meters' : List M) (spills spills' : List D) (replicas : List Replicas) (result : Gathered) (law : EachIsDone) (many : length meters ≡ c.serving.job.now.engines) (have : HaveGathered rules state faults c before after meters meters' spills spills' replicas result) (done : result.outcome ≡ Done) where
+  module _ (before after : View) (meters meters' : List M) (spills spills' : List D) (replicas : List Replicas) (result : EpochEnd) (law : EachIsDone) (many : length meters ≡ c.serving.job.now.engines) (have : HaveGathered rules state faults c before after meters meters' spills spills' replicas result) (done : result.outcome ≡ Done) where
     pub each_gathered : (w : ℕ) (d : D) (r : Replicas) → w < c.serving.job.now.engines → HasGatheredBy rules state c (slice_index_or replicas w r) (slice_index_or spills' w d) (list_of have.epoch w)
     each_gathered w d r below =
         let m : M = some_of meters w (omega (arith, below)) in

@@ -7,7 +7,8 @@ use Rattle.graph_model.specs.declared.edge.Edge.{Edge}
 use Rattle.graph_model.specs.declared.job.Job.{Job}
 use Rattle.graph_model.specs.Programs.{Rules}
 use Rattle.partitioner.specs.declared.split.Split.{Split}
-use Rattle.ports.specs.Disk.{DiskState, IsDisk}
+use Rattle.ports.specs.Disk.{DiskState, IsDisk, ContinuesUnder}
+use Rattle.ports.proofs.Going.{under_same, each_same}
 use Rattle.ports.proofs.Stops.{started}
 use Rattle.ports.proofs.Told.{as_told_same}
 use Rattle.ports.proofs.Rising.{one_rose_before}
@@ -45,7 +46,7 @@ module _ {M : Type 0} (faults : M → ℕ) where
 
 module _ {D : Type 0} (state : D → DiskState) where
   pub go_on_same : (number : ℕ) (devices : List D) → GoOn state number devices devices
-  go_on_same number devices = record { many = refl; beats = λ e d below early. early; later = λ e d below. omega arith; told = λ e d bytes below told. (bytes, told) }
+  go_on_same number devices = each_same state (ContinuesUnder number) (under_same number) devices
 
   pub rows_same : (number : ℕ) (rows : List (Vec D Global)) → RowsGoOn state number rows rows
   rows_same number rows = record { many = refl; each = λ w row below. go_on_same number (slice_index_or rows w row).items }
@@ -54,9 +55,10 @@ module _ {D : Type 0} (state : D → DiskState) where
   pub go_on_later : (many b n : ℕ) (olds news : List D) → AreDevices state many b olds → GoOn state b olds news → b ≤ n → GoOn state n olds news
   go_on_later many b n olds news are goes_on later = record {
     many = goes_on.many;
-    beats = λ e d below _. let early = are.beats e d (omega (arith, below, are.all)) in let is = goes_on.beats e d below early in omega (arith, is);
-    later = goes_on.later;
-    told = goes_on.told;
+    each = λ e d below.
+        let one = goes_on.each e d below in
+        let is = one.beat (are.beats e d (omega (arith, below, are.all))) in
+        record { beat = λ _. omega (arith, is); faults = one.faults; told = one.told };
   }
 
   pub rows_later : (many b n : ℕ) (olds news : List (Vec D Global)) → AreRows state many b olds → RowsGoOn state b olds news → b ≤ n → RowsGoOn state n olds news
@@ -69,7 +71,7 @@ module _ {D : Type 0} (state : D → DiskState) where
   pub devices_after : (many b n : ℕ) (olds news : List D) → AreDevices state many b olds → GoOn state n olds news → b ≤ n → AreDevices state many n news
   devices_after many b n olds news are goes_on later = record {
     all = goes_on.many ∙ are.all;
-    beats = λ e d below. let early = are.beats e d below in goes_on.beats e d (omega (arith, below, are.all)) (omega (arith, early));
+    beats = λ e d below. let early = are.beats e d below in (goes_on.each e d (omega (arith, below, are.all))).beat (omega (arith, early));
   }
 
   pub rows_after : (many b n : ℕ) (olds news : List (Vec D Global)) → AreRows state many b olds → RowsGoOn state n olds news → b ≤ n → AreRows state many n news

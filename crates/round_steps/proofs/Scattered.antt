@@ -21,7 +21,7 @@ use Rattle.store_reader.specs.Indexed.{HasRecords}
 use Rattle.scatter_phase.specs.declared.desk.ScatterContext.{ScatterContext}
 use Rattle.scatter_phase.specs.Phases.{MayStopBy}
 use Rattle.store_reader.specs.Values.{HoldValues, HoldBefore}
-use Rattle.scatter_epoch.specs.declared.crew.Scattered.{Scattered}
+use Rattle.worker_outcomes.specs.declared.epoch_end.EpochEnd.{EpochEnd}
 use Rattle.scatter_epoch.specs.Scattering.{HaveScattered, RoseOfOne}
 use Rattle.epoch_laws.specs.Phases.{edge_shelf, sending_in, sent_in}
 use Rattle.list_moves.proofs.Desks.{some_of}
@@ -43,7 +43,7 @@ module _ {D M : Type 0} (state : D → DiskState) (faults : M → ℕ) (engines 
         | inr lane ↦ inr (w, omega arith, λ e. at_any (λ (x y : Vec D Global). OneRose state x.items y.items) rows rows' w row e (omega arith) (omega arith) lane)
       ]
 
-module _ {P D G M : Type 0} (rules : P → Rules) (state : D → DiskState) (faults : M → ℕ) (c : ScatterContext P D G M) (before after : View) (meters meters' : List M) (rows rows' : List (Vec D Global)) (index : List (List Place)) (result : Scattered)
+module _ {P D G M : Type 0} (rules : P → Rules) (state : D → DiskState) (faults : M → ℕ) (c : ScatterContext P D G M) (before after : View) (meters meters' : List M) (rows rows' : List (Vec D Global)) (index : List (List Place)) (result : EpochEnd)
     (have : HaveScattered rules state faults c before after meters meters' rows rows' index result) where
   -- edges send without damage where all chunks stand
   pub scatters_soundly : (result.outcome ≢ Done → MayStopBy rules state c result.outcome) → (records : ℕ → ℕ → List Edge) → HasRecords state (edge_layout c.serving.job.now.format) c.serving records → IsSound result.outcome

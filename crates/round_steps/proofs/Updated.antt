@@ -13,7 +13,7 @@ use Rattle.replica_merge.specs.declared.replicas.Replicas.{Replicas}
 use Rattle.update_lanes.specs.Lanes.{GoOn}
 use Rattle.gather_phase.specs.declared.desk.GatherContext.{GatherContext}
 use Rattle.gather_phase.specs.Phases.{Takes, MayStopBy}
-use Rattle.gather_epoch.specs.declared.crew.Gathered.{Gathered}
+use Rattle.worker_outcomes.specs.declared.epoch_end.EpochEnd.{EpochEnd}
 use Rattle.scatter_epoch.specs.Sent.{IsOfRows}
 use Rattle.round_steps.specs.Standing.{IsSound}
 use Rattle.round_steps.specs.Updates.{Stand, IsIdle, Gathers}
@@ -21,7 +21,7 @@ use Rattle.round_steps.proofs.Counts.{bytes_of, tell_still}
 use Rattle.round_steps.proofs.Begun.{Either}
 use Rattle.round_steps.proofs.Gathered.{EachIsDone, gathers_soundly, updates_merge}
 
-module _ {P D G M : Type 0} (rules : P → Rules) (state : D → DiskState) (faults : M → ℕ) (c : GatherContext P D G M) (before after : View) (meters meters' : List M) (spills spills' : List D) (replicas : List Replicas) (result : Gathered) where
+module _ {P D G M : Type 0} (rules : P → Rules) (state : D → DiskState) (faults : M → ℕ) (c : GatherContext P D G M) (before after : View) (meters meters' : List M) (spills spills' : List D) (replicas : List Replicas) (result : EpochEnd) where
   -- updates are gathered without damage where their chunks stand
   pub gathers_updates_soundly : Either rules state faults c before after meters meters' spills spills' replicas result → (result.outcome ≢ Done → MayStopBy rules state c result.outcome) → c.counting ≡ false → (rows : List (Vec D Global)) (shelf : Shelf Update)
       → Stand M state c.serving.job.now c.serving.split.now rows c.serving.index.now shelf → IsOfRows c.serving.job.now c.serving.split.now rows c.serving.index.now c.serving → IsSound result.outcome

@@ -22,14 +22,14 @@ use crate::crews::Crews;
 use crate::run::Run;
 use chunk_cursor::CursorSeat;
 use epoch_laws::edges_are_counted;
-use gather_epoch::{Gathered, gather_all};
+use gather_epoch::gather_all;
 use gather_laws::VertexProgram;
 use gather_phase::GatherContext;
 use ports::{Beat, Disk, Gate};
 use replica_merge::Replicas;
 use std::thread::Threads;
 use store_reader::{Outcome, Serving, Shelf};
-use worker_outcomes::outcome_is_of_a_worker;
+use worker_outcomes::{EpochEnd, outcome_is_of_a_worker};
 
 /// Makes ready what round 0 is made of: where the program counts, each worker counts edges.
 pub(crate) fn sum_first<R: Threads + Sync, P: VertexProgram, D: Disk, G: Gate + Sync>(
@@ -40,7 +40,7 @@ pub(crate) fn sum_first<R: Threads + Sync, P: VertexProgram, D: Disk, G: Gate + 
     meters: &mut Vec<D::M>,
     seat: &mut CursorSeat,
     beat: &Beat,
-) -> Gathered
+) -> EpochEnd
     requires job { IsWellFormedJob run.now.job.now }
     requires split { IsSplit run.now.split.now × IsSplitOf run.now.job.now run.now.split.now }
     requires few { (cursor : ℕ) → lens_of run.now.index.now cursor ≤ most_chunks }
@@ -71,7 +71,7 @@ pub(crate) fn sum_first<R: Threads + Sync, P: VertexProgram, D: Disk, G: Gate + 
     }
     let unit = run.program.unit();
     reset_all(&mut crews.replicas, unit);
-    Gathered {
+    EpochEnd {
         outcome: Outcome::Done,
         claims: 0,
         admitted: 0,
@@ -87,7 +87,7 @@ fn count_edges<R: Threads + Sync, P: VertexProgram, D: Disk, G: Gate + Sync>(
     meters: &mut Vec<D::M>,
     seat: &mut CursorSeat,
     beat: &Beat,
-) -> Gathered
+) -> EpochEnd
     requires job { IsWellFormedJob run.now.job.now }
     requires split { IsSplit run.now.split.now × IsSplitOf run.now.job.now run.now.split.now }
     requires few { (cursor : ℕ) → lens_of run.now.index.now cursor ≤ most_chunks }

@@ -28,16 +28,16 @@ use crate::run::{Run, is_done};
 use chunk_cursor::CursorSeat;
 use chunk_file::Index;
 use epoch_laws::round_is_gathered;
-use gather_epoch::{GatherCrew, Gathered, gather_all};
+use gather_epoch::{GatherCrew, gather_all};
 use gather_laws::{VertexProgram, values_have_room};
 use gather_phase::GatherContext;
 use ports::{Beat, Disk, Gate};
 use replica_merge::Replicas;
-use scatter_epoch::{Scattered, scatter_all};
+use scatter_epoch::scatter_all;
 use scatter_phase::ScatterContext;
 use std::thread::Threads;
 use store_reader::{Outcome, Serving, Shelf, Store};
-use worker_outcomes::outcome_is_of_a_worker;
+use worker_outcomes::{EpochEnd, outcome_is_of_a_worker};
 
 /// Makes ready what a round is made of: edges send, and what was sent is gathered.
 pub(crate) fn sum_round<R: Threads + Sync, P: VertexProgram, D: Disk, G: Gate + Sync>(
@@ -50,7 +50,7 @@ pub(crate) fn sum_round<R: Threads + Sync, P: VertexProgram, D: Disk, G: Gate + 
     round: u64,
     changed_only: bool,
     epoch: u64,
-) -> Gathered
+) -> EpochEnd
     requires job { IsWellFormedJob run.now.job.now }
     requires split { IsSplit run.now.split.now × IsSplitOf run.now.job.now run.now.split.now }
     requires few { (cursor : ℕ) → lens_of run.now.index.now cursor ≤ most_chunks }
@@ -93,11 +93,7 @@ pub(crate) fn sum_round<R: Threads + Sync, P: VertexProgram, D: Disk, G: Gate + 
         epoch,
     );
     if !is_done(scattered.outcome) {
-        return Gathered {
-            outcome: scattered.outcome,
-            claims: scattered.claims,
-            admitted: scattered.admitted,
-        };
+        return scattered;
     }
     round_is_gathered(run.program);
     let gathered = gather_updates(
@@ -112,7 +108,7 @@ pub(crate) fn sum_round<R: Threads + Sync, P: VertexProgram, D: Disk, G: Gate + 
         beat,
         epoch + 1,
     );
-    Gathered {
+    EpochEnd {
         outcome: gathered.outcome,
         claims: scattered.claims + gathered.claims,
         admitted: scattered.admitted + gathered.admitted,
@@ -133,7 +129,7 @@ pub(crate) fn scatter_edges<R: Threads + Sync, P: VertexProgram, D: Disk, G: Gat
     round: u64,
     changed_only: bool,
     epoch: u64,
-) -> Scattered
+) -> EpochEnd
     requires job { IsWellFormedJob run.now.job.now }
     requires split { IsSplit run.now.split.now × IsSplitOf run.now.job.now run.now.split.now }
     requires few { (cursor : ℕ) → lens_of run.now.index.now cursor ≤ most_chunks }
@@ -214,7 +210,7 @@ pub(crate) fn gather_updates<R: Threads + Sync, P: VertexProgram, D: Disk, G: Ga
     seat: &mut CursorSeat,
     beat: &Beat,
     epoch: u64,
-) -> Gathered
+) -> EpochEnd
     requires job { IsWellFormedJob run.now.job.now }
     requires split { IsSplit run.now.split.now × IsSplitOf run.now.job.now run.now.split.now }
     requires served { AreServed D.M run.now.job.now run.now.split.now lanes.now updates.now }

@@ -38,8 +38,9 @@ module _ {D : Type 0} (state : D → DiskState) where
   pub later_made : (many : ℕ) (olds news : List D) → length olds ≡ many → length news ≡ many → ((e : ℕ) (d : D) → e < many → IsLater (state (get_or olds e d)) (state (get_or news e d))) → AreLater state olds news
   later_made many olds news before after each = record {
     many = after ∙ sym before;
-    faults = λ e d below. (each e d (omega (arith, below, before))).faults;
-    told = λ e d bytes below is. told_on Any (state (get_or olds e d)).bytes (state (get_or news e d)).bytes (each e d (omega (arith, below, before))).told bytes is;
+    each = λ e d below.
+        let one = each e d (omega (arith, below, before)) in
+        record { faults = one.faults; told = told_on Any (state (get_or olds e d)).bytes (state (get_or news e d)).bytes one.told };
   }
 
   -- under a later beat

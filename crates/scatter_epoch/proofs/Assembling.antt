@@ -28,6 +28,7 @@ use Rattle.scatter_phase.specs.Phases.{MayStopBy}
 use Rattle.scatter_phase.specs.Scattered.{HasScattered}
 use Rattle.chunk_file.specs.declared.index.Place.{Place}
 use Rattle.worker_outcomes.specs.Lowest.{lowest_outcome}
+use Rattle.worker_outcomes.specs.declared.epoch_end.EpochEnd.{EpochEnd}
 use Rattle.worker_outcomes.proofs.Lowest.{all_done, is_of, own_outcome, lowest_meets}
 use Rattle.epoch_seats.specs.Between.{HasEnded}
 use Rattle.epoch_seats.specs.Seats.{AreNewSeats, AreSeats, epoch_with}
@@ -39,7 +40,6 @@ use Rattle.scatter_epoch.specs.Desks.{IsReady, HasWorkedAt}
 use Rattle.scatter_epoch.specs.Dealing.{seat_at, meter_at, lanes_at, places_on, room_at, number_at, outcome_at, claims_at, admitted_at, AreDealt}
 use Rattle.scatter_epoch.specs.Scattering.{RowsGoOn, SomeRose, RoseOfOne, HasScatteredAs, HaveScattered}
 use Rattle.scatter_epoch.specs.Sent.{HaveSent}
-use Rattle.scatter_epoch.specs.declared.crew.Scattered.{Scattered}
 
 module _ {P D G M : Type 0} (rules : P → Rules) (state : D → DiskState) (faults : M → ℕ) (c : ScatterContext P D G M) where
   abbrev the_terms : Terms
@@ -216,7 +216,7 @@ module _ {P D G M : Type 0} (rules : P → Rules) (state : D → DiskState) (fau
           (rows_go_on.each w row there).many ∙ (lanes.each w row (omega (arith, there, lanes.all))).all
 
       -- the outcome of the epoch is that of its workers, or there was no memory for the index
-      module _ (result : Scattered) (index : List (List Place)) (ended_as : (result.outcome ≡ lowest_outcome all_outcomes) ⊎ ((lowest_outcome all_outcomes ≡ Done) × (result.outcome ≡ Memory))) where
+      module _ (result : EpochEnd) (index : List (List Place)) (ended_as : (result.outcome ≡ lowest_outcome all_outcomes) ⊎ ((lowest_outcome all_outcomes ≡ Done) × (result.outcome ≡ Memory))) where
         pub through : result.outcome ≡ Done → lowest_outcome all_outcomes ≡ Done
         through is = ⊎_elim (λ same. sym same ∙ is) (λ both. both.0) ended_as
 

@@ -2,9 +2,9 @@
 use Rattle.std.specs.Prelude.{◌≡◌, ◌≢◌, ◌⊎◌, ℕ, ◌<◌, List, length, slice_index_or, Vec}
 use Rattle.std.specs.Global.{Global}
 use Rattle.graph_model.specs.Programs.{Rules}
-use Rattle.ports.specs.Disk.{DiskState}
+use Rattle.ports.specs.Disk.{DiskState, ContinuesUnder}
 use Rattle.ports.specs.Faults.{Rose}
-use Rattle.ports.specs.Devices.{OneRose}
+use Rattle.ports.specs.Devices.{OneRose, EachRow}
 use Rattle.chunk_object.specs.declared.call.Call.{Call}
 use Rattle.chunk_object.specs.Epochs.{Epoch, list_of}
 use Rattle.chunk_object.specs.Duty.{IsDutiful}
@@ -14,19 +14,17 @@ use Rattle.chunk_file.specs.declared.index.Place.{Place}
 use Rattle.store_reader.specs.declared.store.Outcome.{Outcome}
 use Rattle.store_reader.specs.declared.store.Outcome.TheVariants.{Done, DiskFault, Memory}
 use Rattle.store_reader.specs.Indexed.{lens_of}
-use Rattle.update_lanes.specs.Lanes.{GoOn}
 use Rattle.scatter_phase.specs.declared.desk.ScatterContext.{ScatterContext}
 use Rattle.scatter_phase.specs.Phases.{MayStopBy}
 use Rattle.worker_outcomes.specs.Lowest.{lowest_outcome}
+use Rattle.worker_outcomes.specs.declared.epoch_end.EpochEnd.{EpochEnd}
 use Rattle.epoch_seats.specs.Made.{HasMadeEpoch}
-use Rattle.scatter_epoch.specs.declared.crew.Scattered.{Scattered}
 use Rattle.scatter_epoch.specs.Sent.{HaveSent}
 
 module _ {D : Type 0} (state : D → DiskState) where
   -- the rows of lanes go on, each in its place
-  pub record RowsGoOn (number : ℕ) (old new : List (Vec D Global)) : Type 0 where
-    pub many : length new ≡ length old
-    pub each : (w : ℕ) (row : Vec D Global) → w < length old → GoOn state number (slice_index_or old w row).items (slice_index_or new w row).items
+  abbrev pub RowsGoOn : (number : ℕ) → (old new : List (Vec D Global)) → Type 0
+  RowsGoOn number old new = EachRow state (ContinuesUnder number) old new
 
 module _ {D M : Type 0} (state : D → DiskState) (faults : M → ℕ) where
   -- the count of a worker's meter or of one of its lanes rose
@@ -46,7 +44,7 @@ module _ {P D G M : Type 0} (rules : P → Rules) (state : D → DiskState) (fau
     pub dutiful : outcome ≡ Done → IsDutiful (terms_of c.serving.job.now) worker calls
 
   -- **The epoch was made**, and each worker has done its part of it, with an outcome of its own; where all are done and there was memory for the index, it names what was sent
-  pub record HaveScattered (before after : View) (meters meters' : List M) (rows rows' : List (Vec D Global)) (index : List (List Place)) (result : Scattered) : Type 0 where
+  pub record HaveScattered (before after : View) (meters meters' : List M) (rows rows' : List (Vec D Global)) (index : List (List Place)) (result : EpochEnd) : Type 0 where
     pub epoch : Epoch
     pub made : HasMadeEpoch (terms_of c.serving.job.now) (lens_of c.serving.index.now) (result.outcome ≡ Done) before after result.claims result.admitted epoch
     pub outcomes : List Outcome

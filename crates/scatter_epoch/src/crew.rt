@@ -11,7 +11,6 @@ use partitioner::Split;
 use ports::{Disk, Memory};
 use scatter_phase::{Placed, ScatterDesk, ScatterRoom};
 use std::alloc::Global;
-use store_reader::Outcome;
 
 /// The buffers of all workers, lists for the places of their chunks, and room for their desks and seats. It is made
 /// once, so that an epoch takes no memory but for more places than ever before.
@@ -21,17 +20,6 @@ pub struct ScatterCrew<D: Disk> {
     pub(crate) places: Vec<Vec<Placed>>,
     pub(crate) desks: Vec<ScatterDesk<D>>,
     pub(crate) seats: Vec<CursorSeat>,
-}
-
-/// What an epoch came to.
-#[derive(Clone, Copy)]
-pub struct Scattered {
-    /// That of the lowest worker that is not done; `Memory` where there was none for the index.
-    pub outcome: Outcome,
-    /// How many chunks were taken.
-    pub claims: u64,
-    /// How often help was admitted.
-    pub admitted: u64,
 }
 
 impl<D: Disk> ScatterCrew<D> {

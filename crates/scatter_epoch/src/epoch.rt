@@ -11,7 +11,7 @@ ghost use Rattle.scatter_epoch.specs.Joining.{IsIndexOf};
 ghost use Rattle.scatter_epoch.specs.Desks.{IsContext, IsReady, HasWorkedAt};
 ghost use Rattle.scatter_epoch.specs.Scattering.{RowsGoOn, RoseOfOne, HaveScattered};
 
-use crate::crew::{ScatterCrew, Scattered};
+use crate::crew::ScatterCrew;
 use crate::index::index_places;
 use crate::moves::{collect, deal};
 use chunk_cursor::CursorSeat;
@@ -23,6 +23,7 @@ use ports::{Disk, Gate, Memory};
 use scatter_phase::{Placed, ScatterContext, ScatterDesk, scatter_work};
 use std::thread::Threads;
 use store_reader::Outcome;
+use worker_outcomes::EpochEnd;
 
 /// Lets all workers scatter along the edges of the context's index, each its share: worker w with meter w, to its lanes
 /// `lanes[w]`. Where all are done, `updates` becomes the index of the chunks on all lanes. On every answer all is back in
@@ -35,7 +36,7 @@ pub fn scatter_all<R: Threads + Sync, P: VertexProgram, D: Disk, G: Gate + Sync>
     meters: &mut Vec<D::M>,
     lanes: &mut Vec<Vec<D>>,
     updates: &mut Index,
-) -> Scattered
+) -> EpochEnd
     requires context { IsContext P.rules D.state context.now }
     requires table { seat.old.table ≡ context.now.serving.table.now }
     requires between { IsBetweenEpochs seat.old.view }
@@ -69,7 +70,7 @@ pub fn scatter_all<R: Threads + Sync, P: VertexProgram, D: Disk, G: Gate + Sync>
     fork_scatter(rt, context, &mut crew.desks);
     let scattered = collect(crew, meters, lanes);
     close_epoch(serving.table, seat, &mut crew.seats);
-    Scattered {
+    EpochEnd {
         outcome: index_where_done(scattered.outcome, &crew.places, updates),
         ..scattered
     }

@@ -13,5 +13,5 @@ mod epoch;
 mod index;
 mod moves;
 
-pub use crew::{ScatterCrew, Scattered};
+pub use crew::ScatterCrew;
 pub use epoch::scatter_all;

@@ -4,12 +4,12 @@ ghost use Rattle.std.specs.List.{range_with_len};
 ghost use Rattle.worker_outcomes.specs.Lowest.{lowest_outcome};
 ghost use Rattle.scatter_epoch.specs.Dealing.{number_at, outcome_at, claims_at, admitted_at, places_on, AreDealt};
 
-use crate::crew::{ScatterCrew, Scattered};
+use crate::crew::ScatterCrew;
 use list_moves::{put_last, take_first};
 use ports::Disk;
 use scatter_phase::ScatterDesk;
 use store_reader::Outcome;
-use worker_outcomes::lower_outcome;
+use worker_outcomes::{EpochEnd, lower_outcome};
 
 /// Puts a desk for each worker together, in order, without places.
 pub(crate) fn deal<D: Disk>(
@@ -50,7 +50,7 @@ pub(crate) fn collect<D: Disk>(
     crew: &mut ScatterCrew<D>,
     meters: &mut Vec<D::M>,
     lanes: &mut Vec<Vec<D>>,
-) -> Scattered
+) -> EpochEnd
     requires empty { (vec_len crew.old.seats ≡ 0) × (vec_len meters.old ≡ 0) × (vec_len lanes.old ≡ 0) × (vec_len crew.old.places ≡ 0) × (vec_len crew.old.rooms ≡ 0) }
     requires room { (vec_len crew.old.desks ≤ vec_capacity crew.old.seats) × (vec_len crew.old.desks ≤ vec_capacity meters.old) × (vec_len crew.old.desks ≤ vec_capacity lanes.old) × (vec_len crew.old.desks ≤ vec_capacity crew.old.places) × (vec_len crew.old.desks ≤ vec_capacity crew.old.rooms) }
     ensures dealt { AreDealt crew.old.desks.items crew.new.seats.items meters.new.items lanes.new.items crew.new.rooms.items }
@@ -62,7 +62,7 @@ pub(crate) fn collect<D: Disk>(
     ensures empty { vec_len crew.new.desks ≡ 0 }
     ensures room { (vec_capacity crew.new.desks ≡ vec_capacity crew.old.desks) × (vec_capacity crew.old.seats ≤ vec_capacity crew.new.seats) × (vec_capacity meters.old ≤ vec_capacity meters.new) × (vec_capacity lanes.old ≤ vec_capacity lanes.new) }
 {
-    let mut all = Scattered {
+    let mut all = EpochEnd {
         outcome: Outcome::Done,
         claims: 0,
         admitted: 0,

@@ -3,9 +3,9 @@ ghost use Rattle.std.specs.Prelude.{ℕ, ◌<◌, [], length, slice_index_or, On
 ghost use Rattle.update_lanes.specs.Lanes.{HasChunks, GoOn};
 ghost use Rattle.ports.specs.Devices.{AreDevices, OneRose, NoneRose};
 
-use ports::{Beat, Disk, Failed};
+use ports::{Beat, Disk, Failed, cut_all};
 
-/// Cuts each lane to nothing.
+/// Cuts each lane to nothing, so that it has no chunk.
 pub(crate) fn empty_lanes<D: Disk>(lanes: &mut Vec<D>, beat: &Beat) -> Result<(), Failed>
     requires lanes { AreDevices D.state (length lanes.old.items) beat.now lanes.old.items }
     ensures go_on { GoOn D.state beat.now lanes.old.items lanes.new.items }
@@ -13,8 +13,5 @@ pub(crate) fn empty_lanes<D: Disk>(lanes: &mut Vec<D>, beat: &Beat) -> Result<()
     ensures cause { OnErr result (OneRose D.state lanes.old.items lanes.new.items) }
     ensures calm { OnOk result (NoneRose D.state lanes.old.items lanes.new.items) }
 {
-    'lanes: for engine in 0..lanes.len() {
-        lanes[engine].cut(beat, 0)?;
-    }
-    Ok(())
+    cut_all(lanes, beat)
 }

@@ -1,12 +1,11 @@
 -- Steps over several devices, one device after another.
-use Rattle.std.proofs.Common.{◌≡◌, ◌∙◌, ℕ, ◌+◌, ◌<◌, List, length, get_or, set, refl, subst, arith}
+use Rattle.std.proofs.Common.{◌≡◌, ◌∙◌, ℕ, ◌<◌, List, length, get_or, set, refl, subst, arith}
 use Rattle.std.proofs.lemmas.List.{get_or_default, length-set}
 use Rattle.ports.specs.Disk.{DiskState, IsDisk, InEveryImage}
-use Rattle.ports.proofs.Rising.{one_rose_before, one_rose_after, same_here}
-use Rattle.ports.specs.Devices.{Each, OneRose, NoneRose}
+use Rattle.ports.proofs.Rising.{one_rose_before, one_rose_after}
+use Rattle.ports.specs.Devices.{Each, OneRose}
 use Rattle.store_model.specs.Heads.{IsShutGraph}
 use Rattle.graph_model.proofs.ListLemmas.{at_set}
-use Rattle.graph_model.proofs.OneByOne.{DoneBelow, none_done, next_steps, one_done}
 use Rattle.storage_engine.specs.Steps.{Anything, Step, IsClosedFront, Opens}
 use Rattle.storage_engine.proofs.Keeping.{step_same, step_then, step_anything, closed_step, opens_same}
 
@@ -39,33 +38,6 @@ one_rose_later state P number olds mids news first rose = one_rose_before (λ x.
 
 pub one_rose_earlier : {X : Type 0} (state : X → DiskState) (P : List ℕ → Type 0) (number : ℕ) (olds mids news : List X) → length mids ≡ length olds → OneRose state olds mids → Each state (Step P number) mids news → OneRose state olds news
 one_rose_earlier state P number olds mids news many rose next = one_rose_after (λ x. (state x).faults) olds mids news many rose (λ e d below. (next.each e d (omega (arith, below, many))).faults)
-
--- The devices below a number have had their step, and the others no call; no count of faults rose.
-module _ {X : Type 0} (state : X → DiskState) (R : DiskState → DiskState → Type 0) (Q : ℕ → DiskState → DiskState → Type 0) where
-  abbrev Steps : X → X → Type 0
-  Steps x y = R (state x) (state y)
-
-  abbrev Done : ℕ → X → X → Type 0
-  Done k x y = Q k (state x) (state y)
-
-  pub record CalmBelow (e : ℕ) (olds mids : List X) : Type 0 where
-    pub below : DoneBelow Steps Done e olds mids
-    pub calm : NoneRose state olds mids
-
-  pub none_yet : (disks : List X) → Each state R disks disks → CalmBelow 0 disks disks
-  none_yet disks same = record { below = none_done Steps Done disks same.each; calm = refl }
-
-  module _ (e : ℕ) (olds mids : List X) (mid new : X) (within : e < length mids) (so_far : CalmBelow e olds mids) (step : R (state (get_or mids e mid)) (state new)) where
-    -- a step of the next one, whatever comes of it
-    pub each_next : Each state R olds (set mids e new)
-    each_next = record { many = length-set mids e new ∙ so_far.below.many; each = next_steps Steps Done e olds mids mid new within so_far.below step }
-
-    -- and where it succeeded
-    pub next_done : Q e (state (get_or mids e mid)) (state new) → (state new).faults ≡ (state (get_or mids e mid)).faults → CalmBelow (e + 1) olds (set mids e new)
-    next_done now same = record {
-      below = one_done Steps Done e olds mids mid new within so_far.below step now;
-      calm = same_here (λ (x : X). (state x).faults) olds mids e mid new so_far.calm same;
-    }
 
 pub each_opens_same : {X : Type 0} (state : X → DiskState) (number : ℕ) (disks : List X) → ((x : X) → IsDisk (state x)) → ((e : ℕ) (d : X) → e < length disks → InEveryImage (state (get_or disks e d)) IsClosedFront) → Each state (Opens number) disks disks
 each_opens_same state number disks laws closed = record { many = refl; each = λ e d within. opens_same number (state (get_or disks e d)) (laws (get_or disks e d)) (closed e d within) }

@@ -4,7 +4,8 @@ use Rattle.std.specs.Prelude.{Vec}
 use Rattle.std.specs.Global.{Global}
 use Rattle.std.specs.List.{All}
 use Rattle.std.proofs.lemmas.List.Elements.{All-nil, All-from_get_or}
-use Rattle.ports.specs.Disk.{DiskState}
+use Rattle.ports.specs.Disk.{DiskState, Continues}
+use Rattle.ports.proofs.Going.{each_means, rows_means}
 use Rattle.ports.specs.Stops.{IsStop, AreImages}
 use Rattle.ports.specs.Devices.{Each, OneRose, MetersGoOn, AreDevices, AreRows, OneCountRose, EachRow, OneRowRose}
 use Rattle.store_model.specs.Kept.{IsUnprepared}
@@ -41,10 +42,10 @@ module _ {D : Type 0} (state : D → DiskState) where
 
   -- each in its place
   devices_later : (n : ℕ) (olds news : List D) → Each state (HandsBack n) olds news → AreLater state olds news
-  devices_later n olds news back = record { many = back.many; faults = λ e d below. (back.each e d below).faults; told = λ e d bytes below. (back.each e d below).told bytes }
+  devices_later n olds news back = each_means state (HandsBack n) Continues (λ old new. λ is. is.later) olds news back
 
   rows_later : (n : ℕ) (olds news : List (Vec D Global)) → EachRow state (HandsBack n) olds news → AreLaterRows state olds news
-  rows_later n olds news back = record { many = back.many; each = λ w row below. devices_later n (get_or olds w row).items (get_or news w row).items (back.each w row below) }
+  rows_later n olds news back = rows_means state (HandsBack n) Continues (λ old new. λ is. is.later) olds news back
 
 module _ {D M : Type 0} (state : D → DiskState) (faults : M → ℕ) (call : Call D M) (engines : ℕ) (some : 1 ≤ engines) (ready : IsReady state engines call.before) (on : MetersGoOn faults call.before.meters call.after.meters)
     (unread : call.text_after ≡ call.text) (no_reads : call.read_faults_after ≡ call.read_faults) (unprinted : call.out_after ≡ call.out) (no_writes : call.write_faults_after ≡ call.write_faults) (same_seat : call.after.seat ≡ call.before.seat)

@@ -7,7 +7,7 @@ use Rattle.chunk_model.proofs.OnDevice.{one_chunk}
 use Rattle.chunk_file.specs.Places.{places_of}
 use Rattle.chunk_file.specs.Chunks.{IsChunkIn, NoChunkIn}
 use Rattle.store_reader.specs.declared.serving.Serving.{Serving}
-use Rattle.store_reader.specs.Serving.{told_at, place_at, ReadsAt, RefusesAt, IsFoundChunk}
+use Rattle.store_reader.specs.Serving.{told_at, place_at, ReadsAt, RefusesAt, IsFoundChunk, IsRefusedChunk}
 use Rattle.store_reader.specs.Indexed.{HasRecords}
 
 module _ {D M : Type 0} (state : D → DiskState) (serving : Serving D M) (engine p t : ℕ) (inside : engine < serving.job.now.engines) (below : p < serving.split.now.parts) (there : t < length (places_of serving.index.now engine p)) {X : Type 0} (layout : Layout X) where
@@ -51,3 +51,15 @@ module _ {D M : Type 0} (state : D → DiskState) (serving : Serving D M) (engin
           → IfSome bytes (λ bytes. (items : List X) × IsChunkIn layout serving.split.now serving.job.now.chunk p at bytes items)
       some_stands (Some bytes) stands = (take count into, stands)
       some_stands None stands = tt
+
+  -- and one that is refused is a chunk of the index
+  pub refused_chunk : (most place : ℕ) → most ≡ serving.job.now.chunk → RefusesAt layout serving.split.now p (place_at serving.index.now engine p t) told most place
+      → IsRefusedChunk state layout serving serving.job.now.chunk engine place
+  refused_chunk most place long refuses = record {
+    partition = p;
+    t = t;
+    engine_is = inside;
+    partition_is = below;
+    there = there;
+    refuses = subst (λ most. RefusesAt layout serving.split.now p (place_at serving.index.now engine p t) told most place) long refuses;
+  }

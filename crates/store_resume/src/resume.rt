@@ -8,6 +8,8 @@ ghost use Rattle.round_steps.specs.Going.{IsStore};
 ghost use Rattle.partitioner.specs.Splits.{split_for};
 ghost use Rattle.round_loop.specs.Keeping.{moment};
 ghost use Rattle.run_model.specs.Calls.{IsReady};
+ghost use Rattle.restart.specs.Recovering.{job_in, index_in};
+ghost use Rattle.store_rounds.specs.Going.{start_of};
 ghost use Rattle.store_resume.specs.Resumes.{IsResume};
 ghost use Rattle.store_resume.specs.Going.{GoesOn};
 ghost use Rattle.store_resume.specs.Refusals;
@@ -60,34 +62,31 @@ pub fn resume_store<R: Threads + Sync, K: Sink, D: Disk, G: Gate + Sync>(
     }) engines result }
 {
     match recover(alloc, store, &mut meters[engines as usize]) {
-        Ok(
-            Recovered::Found {
-                job,
-                index,
-                round,
-                changed,
-            },
-        ) => {
-            let start = Start::At { round, changed };
+        Ok(found) => {
+            let (job, index, start) = start_from(found);
             go_on(
                 rt, alloc, &job, start, &index, out, store, meters, table, seat, gate, beat,
             )
         }
-        Ok(Recovered::Fresh { job, index }) => go_on(
-            rt,
-            alloc,
-            &job,
-            Start::Fresh,
-            &index,
-            out,
-            store,
-            meters,
-            table,
-            seat,
-            gate,
-            beat,
-        ),
         Err(fault) => refusal(fault),
+    }
+}
+
+/// The job that was found, the places of its chunks, and where its rounds start.
+fn start_from(found: Recovered) -> (Job, Index, Start)
+    ensures { result ≡ (job_in found, index_in found, start_of found) }
+{
+    match found {
+        Recovered::Found {
+            job,
+            index,
+            round,
+            changed,
+        } => {
+            let start = Start::At { round, changed };
+            (job, index, start)
+        }
+        Recovered::Fresh { job, index } => (job, index, Start::Fresh),
     }
 }
 

@@ -10,7 +10,8 @@ use Rattle.std.proofs.lemmas.Bool.{eq-eqb, ne_eqb}
 use Rattle.graph_model.specs.declared.value.Update.{Update}
 use Rattle.graph_model.proofs.ListLemmas.{at_set, enumerate-more}
 use Rattle.ports.specs.Bytes.{Torn}
-use Rattle.ports.specs.Disk.{DiskState, Writes}
+use Rattle.ports.specs.Disk.{DiskState, Writes, ContinuesUnder}
+use Rattle.ports.proofs.Going.{under_same}
 use Rattle.ports.specs.Told.{AsTold}
 use Rattle.ports.proofs.Told.{told_on}
 use Rattle.ports.specs.Sink.{Appends}
@@ -107,13 +108,13 @@ lane_goes_on {X} state number at piece lanes e old new within lane writes =
     let was : (d : X) → get_or lanes e d ≡ old = λ d. get_or_default lanes e d new within ∙ lane in
     record {
       many = length-set lanes e new;
-      beats = λ k d below early. at_set (λ j x. (state x).beat ≤ number) lanes e k new d within (λ same. omega (arith, writes.changes.beat)) (λ other. early);
-      later = λ k d below. at_set (λ j x. (state (get_or lanes j d)).faults ≤ (state x).faults) lanes e k new d within
-          (λ same. subst (λ (x : X). (state x).faults ≤ (state new).faults) (sym (was d)) writes.cause.later)
-          (λ other. omega arith);
-      told = λ k d bytes below. at_set (λ j x. (state (get_or lanes j d)).bytes ≡ Some bytes → (now : List ℕ) × ((state x).bytes ≡ Some now)) lanes e k new d within
-          (λ same is. told_on (Torn at (length piece)) (state old).bytes (state new).bytes writes.changes.bytes bytes (ap (λ (x : X). (state x).bytes) (sym (was d)) ∙ is))
-          (λ other is. (bytes, is));
+      each = λ k d below. at_set (λ j x. ContinuesUnder number (state (get_or lanes j d)) (state x)) lanes e k new d within
+          (λ same. subst (λ (x : X). ContinuesUnder number (state x) (state new)) (sym (was d)) (record {
+            beat = λ early. omega (arith, writes.changes.beat);
+            faults = writes.cause.later;
+            told = told_on (Torn at (length piece)) (state old).bytes (state new).bytes writes.changes.bytes;
+          }))
+          (λ other. under_same number (state (get_or lanes k d)));
     }
 
 -- **One chunk more was written.**

@@ -2,7 +2,8 @@
 use Rattle.std.specs.Prelude.{◌≡◌, ℕ, ◌+◌, ◌*◌, ◌==◌, ◌<◌, ◌≤◌, List, [], ◌∷◌, ◌++◌, length, slice_index_or, count_by, Some, IfSome}
 use Rattle.std.specs.List.{All}
 use Rattle.graph_model.specs.declared.value.Update.{Update}
-use Rattle.ports.specs.Disk.{DiskState}
+use Rattle.ports.specs.Disk.{DiskState, ContinuesUnder}
+use Rattle.ports.specs.Devices.{Each}
 use Rattle.chunk_model.specs.Chunks.{Chunk}
 use Rattle.chunk_model.specs.Layout.{update_layout}
 use Rattle.chunk_model.specs.ChunkBytes.{bytes_of_chunks}
@@ -37,11 +38,8 @@ pub record AreReady {X : Type 0} (state : X → DiskState) (engines number count
 
 -- Calls of the lanes under a beat of this number, whatever they answer: no lane is lost, its last call is of that beat
 -- or an earlier one, its count of faults does not fall, and one that tells its bytes still does.
-pub record GoOn {X : Type 0} (state : X → DiskState) (number : ℕ) (old new : List X) : Type 0 where
-  pub many : length new ≡ length old
-  pub beats : (e : ℕ) (d : X) → e < length old → (state (slice_index_or old e d)).beat ≤ number → (state (slice_index_or new e d)).beat ≤ number
-  pub later : (e : ℕ) (d : X) → e < length old → (state (slice_index_or old e d)).faults ≤ (state (slice_index_or new e d)).faults
-  pub told : (e : ℕ) (d : X) (bytes : List ℕ) → e < length old → (state (slice_index_or old e d)).bytes ≡ Some bytes → (now : List ℕ) × ((state (slice_index_or new e d)).bytes ≡ Some now)
+abbrev pub GoOn : {X : Type 0} → (X → DiskState) → (number : ℕ) → (old new : List X) → Type 0
+GoOn state number old new = Each state (ContinuesUnder number) old new
 
 -- a place on an engine and in a partition that there are
 pub record IsWithin (engines parts : ℕ) (place : Placed) : Type 0 where

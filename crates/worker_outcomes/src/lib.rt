@@ -1,12 +1,15 @@
 //! What the outcomes of several workers come to.
 //!
 //! To the room above this crate promises that it is the outcome of the lowest worker that is not done, and `Done` where
-//! all are. It touches nothing.
+//! all are; and `EpochEnd` is what the epochs answer. It touches nothing.
 #![tactic(auto)]
 
 ghost use Rattle.std.specs.Prelude.{◌≡◌, ◌≢◌, ℕ, ◌<◌, [], ◌∷◌, ◌++◌, List, length, slice_index_or};
 ghost use Rattle.worker_outcomes.specs.Lowest.{lowest_outcome, IsLowestAt};
 
+mod epoch_end;
+
+pub use epoch_end::EpochEnd;
 use store_reader::Outcome;
 
 /// The outcome of two workers, or of two groups of workers of which all in the first are lower.

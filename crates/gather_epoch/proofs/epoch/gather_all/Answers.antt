@@ -9,11 +9,10 @@ use Rattle.gather_epoch.proofs.epoch.gather_all.Goals as goal
 pub fork_gather-requires-clause-ready : goal.fork_gather-requires-clause-ready
 fork_gather-requires-clause-ready g c _ _ =
     let lent = c.deref_mut.ensures.value in
-    let steps = c.empty_all.ensures.steps in
     ready g.P.VertexProgram.rules g.D.Disk.state g.D.M.Meter.faults c.args.context.now c.deal.new.crew.desks.items c.open_epoch.new.seats.items c.args.meters.now.items c.args.replicas.now.items _ c.args.crew.now.rooms.items c.deal.ensures.dealt
     (c.deal.ensures.numbers ∙ ap (range_with_len 0) c.requires.meters) c.args.seat.now.view.splits c.open_epoch.ensures.seats c.requires.replicas.1 c.requires.crew.rooms
-    (emptied_size g.D.Disk.state c.args.context.now.beat.now c.args.spills.now c.deref_mut.result.now c.empty_all.new.disks lent c.empty_all.ensures.many steps c.in_default.ensures.empty)
-    (emptied_early g.D.Disk.state c.args.context.now.beat.now c.args.spills.now c.deref_mut.result.now c.empty_all.new.disks lent c.empty_all.ensures.many steps c.requires.spills.1)
+    (emptied_size g.D.Disk.state c.args.context.now.beat.now c.args.spills.now c.deref_mut.result.now c.cut_all.new.disks lent c.cut_all.ensures.each c.in_default.ensures.empty)
+    (emptied_early g.D.Disk.state c.args.context.now.beat.now c.args.spills.now c.deref_mut.result.now c.cut_all.new.disks lent c.cut_all.ensures.each c.requires.spills.1)
 
 pub close_epoch-requires-clause-tables : goal.close_epoch-requires-clause-tables
 close_epoch-requires-clause-tables g c =
@@ -60,14 +59,14 @@ returns-clause-goes_on g c w m d below =
     goes_on g.P.VertexProgram.rules g.D.Disk.state g.D.M.Meter.faults c.args.context.now c.deal.new.crew.desks.items c.open_epoch.new.seats.items c.args.meters.now.items c.args.replicas.now.items _ c.args.crew.now.rooms.items c.deal.ensures.dealt
     (c.deal.ensures.numbers ∙ ap (range_with_len 0) c.requires.meters) c.args.seat.now.view.splits c.open_epoch.ensures.seats c.fork_gather.new.desks.items (omega (arith, c.fork_gather.ensures.many.0, c.fork_gather.new.desks.ok.0, c.deal.new.crew.desks.ok.0)) c.fork_gather.ensures.worked
     _ _ _ _ _ c.collect-gathered.ensures.dealt c.args.spills.now.items
-    (emptied_steps g.D.Disk.state c.args.context.now.beat.now c.args.spills.now c.deref_mut.result.now c.empty_all.new.disks c.deref_mut.ensures.value c.empty_all.ensures.many c.empty_all.ensures.steps) (omega (arith, c.requires.spills.0, c.args.spills.now.ok.0)) w below m d
+    (emptied_steps g.D.Disk.state c.args.context.now.beat.now c.args.spills.now c.deref_mut.result.now c.cut_all.new.disks c.deref_mut.ensures.value c.cut_all.ensures.each) (omega (arith, c.requires.spills.0, c.args.spills.now.ok.0)) w below m d
 
 pub returns-clause-cause : goal.returns-clause-cause
 returns-clause-cause g c fault =
     rose_of g.P.VertexProgram.rules g.D.Disk.state g.D.M.Meter.faults c.args.context.now c.deal.new.crew.desks.items c.open_epoch.new.seats.items c.args.meters.now.items c.args.replicas.now.items _ c.args.crew.now.rooms.items c.deal.ensures.dealt
     (c.deal.ensures.numbers ∙ ap (range_with_len 0) c.requires.meters) c.args.seat.now.view.splits c.open_epoch.ensures.seats c.fork_gather.new.desks.items (omega (arith, c.fork_gather.ensures.many.0, c.fork_gather.new.desks.ok.0, c.deal.new.crew.desks.ok.0)) c.fork_gather.ensures.worked
     _ _ _ _ _ c.collect-gathered.ensures.dealt c.args.spills.now.items
-    (emptied_steps g.D.Disk.state c.args.context.now.beat.now c.args.spills.now c.deref_mut.result.now c.empty_all.new.disks c.deref_mut.ensures.value c.empty_all.ensures.many c.empty_all.ensures.steps) (omega (arith, c.requires.spills.0, c.args.spills.now.ok.0))
+    (emptied_steps g.D.Disk.state c.args.context.now.beat.now c.args.spills.now c.deref_mut.result.now c.cut_all.new.disks c.deref_mut.ensures.value c.cut_all.ensures.each) (omega (arith, c.requires.spills.0, c.args.spills.now.ok.0))
     (sym c.collect-gathered.ensures.outcome ∙ fault)
 
 pub returns-clause-calm : goal.returns-clause-calm
@@ -75,9 +74,9 @@ returns-clause-calm g c through =
     none_rose g.P.VertexProgram.rules g.D.Disk.state g.D.M.Meter.faults c.args.context.now c.deal.new.crew.desks.items c.open_epoch.new.seats.items c.args.meters.now.items c.args.replicas.now.items _ c.args.crew.now.rooms.items c.deal.ensures.dealt
     (c.deal.ensures.numbers ∙ ap (range_with_len 0) c.requires.meters) c.args.seat.now.view.splits c.open_epoch.ensures.seats c.fork_gather.new.desks.items (omega (arith, c.fork_gather.ensures.many.0, c.fork_gather.new.desks.ok.0, c.deal.new.crew.desks.ok.0)) c.fork_gather.ensures.worked
     _ _ _ _ _ c.collect-gathered.ensures.dealt c.args.spills.now.items
-    (emptied_steps g.D.Disk.state c.args.context.now.beat.now c.args.spills.now c.deref_mut.result.now c.empty_all.new.disks c.deref_mut.ensures.value c.empty_all.ensures.many c.empty_all.ensures.steps) (omega (arith, c.requires.spills.0, c.args.spills.now.ok.0))
+    (emptied_steps g.D.Disk.state c.args.context.now.beat.now c.args.spills.now c.deref_mut.result.now c.cut_all.new.disks c.deref_mut.ensures.value c.cut_all.ensures.each) (omega (arith, c.requires.spills.0, c.args.spills.now.ok.0))
     (sym c.collect-gathered.ensures.outcome ∙ through)
-    (emptied_calm g.D.Disk.state c.args.context.now.beat.now c.args.spills.now c.deref_mut.result.now c.empty_all.new.disks c.deref_mut.ensures.value c.empty_all.ensures.many c.empty_all.ensures.steps c.in_default.ensures.calm)
+    (emptied_calm g.D.Disk.state c.args.context.now.beat.now c.args.spills.now c.deref_mut.result.now c.cut_all.new.disks c.deref_mut.ensures.value c.cut_all.ensures.each c.in_default.ensures.calm)
 
 pub returns-clause-stopped : goal.returns-clause-stopped
 returns-clause-stopped g c not =
@@ -85,7 +84,7 @@ returns-clause-stopped g c not =
     (stopped_by g.P.VertexProgram.rules g.D.Disk.state g.D.M.Meter.faults c.args.context.now c.deal.new.crew.desks.items c.open_epoch.new.seats.items c.args.meters.now.items c.args.replicas.now.items _ c.args.crew.now.rooms.items c.deal.ensures.dealt
     (c.deal.ensures.numbers ∙ ap (range_with_len 0) c.requires.meters) c.args.seat.now.view.splits c.open_epoch.ensures.seats c.fork_gather.new.desks.items (omega (arith, c.fork_gather.ensures.many.0, c.fork_gather.new.desks.ok.0, c.deal.new.crew.desks.ok.0)) c.fork_gather.ensures.worked
     _ _ _ _ _ c.collect-gathered.ensures.dealt c.args.spills.now.items
-    (emptied_steps g.D.Disk.state c.args.context.now.beat.now c.args.spills.now c.deref_mut.result.now c.empty_all.new.disks c.deref_mut.ensures.value c.empty_all.ensures.many c.empty_all.ensures.steps) (omega (arith, c.requires.spills.0, c.args.spills.now.ok.0))
+    (emptied_steps g.D.Disk.state c.args.context.now.beat.now c.args.spills.now c.deref_mut.result.now c.cut_all.new.disks c.deref_mut.ensures.value c.cut_all.ensures.each) (omega (arith, c.requires.spills.0, c.args.spills.now.ok.0))
     (λ done. not (c.collect-gathered.ensures.outcome ∙ done)))
 
 pub returns-clause-few : goal.returns-clause-few
@@ -108,7 +107,7 @@ returns-clause-gathered g c =
     inr (have_gathered g.P.VertexProgram.rules g.D.Disk.state g.D.M.Meter.faults c.args.context.now c.deal.new.crew.desks.items c.open_epoch.new.seats.items c.args.meters.now.items c.args.replicas.now.items _ c.args.crew.now.rooms.items c.deal.ensures.dealt
     (c.deal.ensures.numbers ∙ ap (range_with_len 0) c.requires.meters) c.args.seat.now.view.splits c.open_epoch.ensures.seats c.fork_gather.new.desks.items (omega (arith, c.fork_gather.ensures.many.0, c.fork_gather.new.desks.ok.0, c.deal.new.crew.desks.ok.0)) c.fork_gather.ensures.worked
     _ _ _ _ _ c.collect-gathered.ensures.dealt c.args.spills.now.items
-    (emptied_steps g.D.Disk.state c.args.context.now.beat.now c.args.spills.now c.deref_mut.result.now c.empty_all.new.disks c.deref_mut.ensures.value c.empty_all.ensures.many c.empty_all.ensures.steps) (omega (arith, c.requires.spills.0, c.args.spills.now.ok.0))
+    (emptied_steps g.D.Disk.state c.args.context.now.beat.now c.args.spills.now c.deref_mut.result.now c.cut_all.new.disks c.deref_mut.ensures.value c.cut_all.ensures.each) (omega (arith, c.requires.spills.0, c.args.spills.now.ok.0))
     c.args.seat.now.view c.close_epoch.new.seat.view c.collect-gathered.result c.collect-gathered.ensures.outcome
     (made g.P.VertexProgram.rules g.D.Disk.state g.D.M.Meter.faults c.args.context.now c.deal.new.crew.desks.items c.open_epoch.new.seats.items c.args.meters.now.items c.args.replicas.now.items _ c.args.crew.now.rooms.items c.deal.ensures.dealt
     (c.deal.ensures.numbers ∙ ap (range_with_len 0) c.requires.meters) c.args.seat.now.view.splits c.open_epoch.ensures.seats c.fork_gather.new.desks.items (omega (arith, c.fork_gather.ensures.many.0, c.fork_gather.new.desks.ok.0, c.deal.new.crew.desks.ok.0)) c.fork_gather.ensures.worked

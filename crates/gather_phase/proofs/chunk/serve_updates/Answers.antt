@@ -5,8 +5,7 @@ use Rattle.replica_merge.specs.Accumulators.{sums_of, len_of}
 use Rattle.chunk_model.specs.Layout.{update_layout}
 use Rattle.gather_phase.specs.Phases.{Takes, IsRefused, IsFound, part_of, adding_of}
 use Rattle.store_reader.specs.Indexed.{lens_of}
-use Rattle.store_reader.specs.Serving.{told_at, place_at, RefusesAt, IsRefusedChunk}
-use Rattle.store_reader.proofs.Taken.{found_chunk}
+use Rattle.store_reader.proofs.Taken.{found_chunk, refused_chunk}
 use Rattle.gather_phase.proofs.Beginning.{found_still, found_more}
 use Rattle.gather_phase.proofs.Reading.{updates_within, takes_updates, refuses_updates}
 use Rattle.gather_phase.proofs.Serving.{met_none, come_begun, come_split, come_stays, met_more, taken_of, long_sums}
@@ -69,15 +68,7 @@ returns-in-Damaged g c =
     let tiny : c.args.partition < 2 ^ 32 = omega arith in
     let few : c.args.context.now.serving.job.now.chunk < 2 ^ 32 = omega (arith, job.chunk.1) in
     let is_of = taken_of c.args.context.now.serving.job.now.engines c.args.context.now.serving.split.now.parts (lens_of c.args.context.now.serving.index.now) _ c.args.engine c.args.partition served.0 small c.requires.may.engine_is below c.requires.may.ready served.1.given in
-    let refused : IsRefusedChunk g.D.Disk.state update_layout c.args.context.now.serving c.args.context.now.serving.job.now.chunk c.args.engine c.in-Damaged.place = record {
-      partition = c.args.partition;
-      t = served.0;
-      engine_is = c.requires.may.engine_is;
-      partition_is = below;
-      there = omega (arith, is_of.place);
-      refuses = subst (λ most. RefusesAt update_layout c.args.context.now.serving.split.now c.args.partition (place_at c.args.context.now.serving.index.now c.args.engine c.args.partition served.0)
-          (told_at g.D.Disk.state c.args.context.now.serving.shelf c.args.engine (place_at c.args.context.now.serving.index.now c.args.engine c.args.partition served.0).lane) most c.in-Damaged.place) c.requires.may.at.room.updates served.2;
-    } in
+    let refused = refused_chunk g.D.Disk.state c.args.context.now.serving c.args.engine c.args.partition served.0 c.requires.may.engine_is below (omega (arith, is_of.place)) update_layout _ c.in-Damaged.place c.requires.may.at.room.updates served.2 in
     record {
       goes_on = record { worker = refl; split = refl; room = λ job is. record { updates = c.in-Damaged.ensures.rooms.1 ∙ is.updates; edges = is.edges; bytes = c.in-Damaged.ensures.rooms.0 ∙ is.bytes }; reads = c.in-Damaged.ensures.later; writes = omega arith; told = λ bytes is. (bytes, is); caused = λ is. absurd cc; calm = λ is. absurd cc };
       table_is = c.in-Damaged.ensures.table;

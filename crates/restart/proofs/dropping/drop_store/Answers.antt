@@ -6,7 +6,8 @@ use Rattle.ports.specs.Disk.{InEveryImage}
 use Rattle.ports.proofs.Rising.{on_err}
 use Rattle.ports.specs.Devices.{Each, OneRose}
 use Rattle.store_model.specs.Heads.{IsShutGraph}
-use Rattle.restart.specs.Dropping.{Closes, Empties}
+use Rattle.ports.specs.Stops.{Empties}
+use Rattle.restart.specs.Dropping.{Closes}
 use Rattle.std.proofs.lemmas.Result.{on_err_weaker}
 use Rattle.restart.proofs.Devices.{given_back}
 use Rattle.restart.proofs.Dropped.{graphs_dropped, graphs_closed, all_values_emptied, all_values_kept, stops_of_drop, rose_later}

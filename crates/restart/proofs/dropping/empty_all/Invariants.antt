@@ -1,5 +1,6 @@
 use Rattle.ports.specs.Devices.{NoneRose}
-use Rattle.restart.specs.Dropping.{Empties, IsEmpty}
+use Rattle.ports.specs.Stops.{Empties}
+use Rattle.restart.specs.Dropping.{IsEmpty}
 use Rattle.graph_model.proofs.OneByOne.{DoneBelow}
 use Rattle.restart.proofs.dropping.empty_all.Given as goal
 

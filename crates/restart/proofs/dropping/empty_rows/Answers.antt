@@ -4,7 +4,8 @@ use Rattle.std.specs.List.{All}
 use Rattle.std.specs.Vec.{with_items}
 use Rattle.ports.proofs.Rising.{on_err, same_here}
 use Rattle.ports.specs.Devices.{Each, OneRose, NoneRose}
-use Rattle.restart.specs.Dropping.{Empties, IsEmpty}
+use Rattle.ports.specs.Stops.{Empties}
+use Rattle.restart.specs.Dropping.{IsEmpty}
 use Rattle.graph_model.proofs.OneByOne.{next_steps, one_done}
 use Rattle.restart.proofs.Devices.{given_back, row_rose_here}
 use Rattle.restart.proofs.dropping.empty_rows.Goals as goal

@@ -1,6 +1,7 @@
 use Rattle.std.specs.List.{All}
 use Rattle.ports.specs.Devices.{Each, NoRowRose}
-use Rattle.restart.specs.Dropping.{Empties, IsEmpty}
+use Rattle.ports.specs.Stops.{Empties}
+use Rattle.restart.specs.Dropping.{IsEmpty}
 use Rattle.graph_model.proofs.OneByOne.{DoneBelow}
 use Rattle.restart.proofs.dropping.empty_rows.Given as goal
 

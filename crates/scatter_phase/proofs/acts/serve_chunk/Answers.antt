@@ -4,8 +4,7 @@ use Rattle.graph_model.specs.declared.edge.Edge.{Edge}
 use Rattle.chunk_model.specs.Layout.{edge_layout}
 use Rattle.chunk_model.proofs.LayoutLaws.{edge_layout_is}
 use Rattle.store_reader.specs.Indexed.{lens_of, HasRecords}
-use Rattle.store_reader.proofs.Taken.{reads_records, refuses_none, found_chunk}
-use Rattle.store_reader.specs.Serving.{told_at, place_at, RefusesAt, IsRefusedChunk}
+use Rattle.store_reader.proofs.Taken.{reads_records, refuses_none, found_chunk, refused_chunk}
 use Rattle.update_lanes.proofs.GoingOn.{stays}
 use Rattle.worker_duty.specs.Views.{taken_by_seat}
 use Rattle.worker_duty.proofs.Cursors.{taken_here-more, taken_here-none}
@@ -88,15 +87,7 @@ returns-in-Damaged g c =
     let job = c.requires.serving.job in
     let below : c.args.partition < c.args.context.now.serving.split.now.parts = omega (arith, c.requires.may.partition_is, c.requires.serving.of_job.parts) in
     let there = taken_of (lens_of c.args.context.now.serving.index.now) c.args.desk.now.seat.view (cursor_of c.args.engine c.args.partition) served.0 c.requires.may.ready served.1.given in
-    let refused : IsRefusedChunk g.D.Disk.state (edge_layout c.args.context.now.serving.job.now.format) c.args.context.now.serving c.args.context.now.serving.job.now.chunk c.args.engine c.in-Damaged.place = record {
-      partition = c.args.partition;
-      t = served.0;
-      engine_is = c.requires.may.engine_is;
-      partition_is = below;
-      there = there;
-      refuses = subst (λ most. RefusesAt (edge_layout c.args.context.now.serving.job.now.format) c.args.context.now.serving.split.now c.args.partition (place_at c.args.context.now.serving.index.now c.args.engine c.args.partition served.0)
-          (told_at g.D.Disk.state c.args.context.now.serving.shelf c.args.engine (place_at c.args.context.now.serving.index.now c.args.engine c.args.partition served.0).lane) most c.in-Damaged.place) c.requires.may.at.fit.room.edges served.2;
-    } in
+    let refused = refused_chunk g.D.Disk.state c.args.context.now.serving c.args.engine c.args.partition served.0 c.requires.may.engine_is below there (edge_layout c.args.context.now.serving.job.now.format) _ c.in-Damaged.place c.requires.may.at.fit.room.edges served.2 in
     let at = c.requires.may.at in
     record {
       goes_on = record { worker = refl; room = λ job is. record { outgoing = is.outgoing; of_job = is.of_job; size = is.size; edges = c.in-Damaged.ensures.rooms.1 ∙ is.edges; bytes = c.in-Damaged.ensures.rooms.0 ∙ is.bytes; now = is.now; before = is.before; changed = is.changed }; reads = c.in-Damaged.ensures.later; lanes = stays g.D.Disk.state c.args.context.now.beat.now c.args.desk.now.lanes.items; caused = λ is. absurd cc; calm = λ is. absurd cc };

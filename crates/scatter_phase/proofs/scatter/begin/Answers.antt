@@ -20,7 +20,7 @@ returns-clause-holds g c =
     let ready : AreReady g.D.Disk.state c.reset.new.out.split.engines c.args.context.now.beat.now (length c.args.desk.now.places.items) c.empty_lanes.new.lanes.items =
     record {
       many = go_on.many ∙ (c.requires.lanes.all ∙ sym of_job.engines);
-      beats = λ e d below. go_on.beats e d (omega (arith, go_on.many, below)) (c.requires.lanes.beats e d (omega (arith, go_on.many, c.requires.lanes.all, below)));
+      beats = λ e d below. (go_on.each e d (omega (arith, go_on.many, below))).beat (c.requires.lanes.beats e d (omega (arith, go_on.many, c.requires.lanes.all, below)));
       sizes = λ e d below. omega (arith, (empty e d below).size_is);
     } in
     let within : All (IsWithin job.engines c.args.context.now.serving.split.now.parts) c.args.desk.now.places.items =

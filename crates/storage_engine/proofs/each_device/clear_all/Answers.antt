@@ -2,7 +2,8 @@ use Rattle.std.proofs.Common.{◌<◌, [], length, arith, rules}
 use Rattle.std.proofs.lemmas.Grind.{common_steps}
 use Rattle.store_model.specs.Heads.{IsShutGraph}
 use Rattle.storage_engine.specs.Steps.{Step, HoldsExactly}
-use Rattle.storage_engine.proofs.Every.{none_yet, each_next, next_done, each_same}
+use Rattle.ports.proofs.InTurn.{none_yet, each_next, next_done}
+use Rattle.storage_engine.proofs.Every.{each_same}
 use Rattle.storage_engine.proofs.each_device.clear_all.Goals as goal
 
 pub loop-e-init : goal.loop-e-init

@@ -1,7 +1,7 @@
 use Rattle.std.proofs.Common.{[]}
 use Rattle.store_model.specs.Heads.{IsShutGraph}
 use Rattle.storage_engine.specs.Steps.{Step, HoldsExactly}
-use Rattle.storage_engine.proofs.Every.{CalmBelow}
+use Rattle.ports.proofs.InTurn.{CalmBelow}
 use Rattle.storage_engine.proofs.each_device.clear_all.Given as goal
 
 abbrev pub invariant-loop-e : goal.invariant-loop-e

@@ -2,7 +2,8 @@ use Rattle.std.proofs.Common.{◌<◌, ◌≤◌, length, arith, rules, sym, sub
 use Rattle.std.proofs.lemmas.Grind.{common_steps}
 use Rattle.ports.specs.Disk.{IsSettled, InEveryImage}
 use Rattle.storage_engine.specs.Steps.{Opens, Opened, IsClosedFront}
-use Rattle.storage_engine.proofs.Every.{none_yet, each_next, next_done, each_opens_same}
+use Rattle.ports.proofs.InTurn.{none_yet, each_next, next_done}
+use Rattle.storage_engine.proofs.Every.{each_opens_same}
 use Rattle.storage_engine.proofs.each_device.open_all.Goals as goal
 
 pub loop-e-init : goal.loop-e-init

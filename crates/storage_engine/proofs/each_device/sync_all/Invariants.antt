@@ -1,5 +1,5 @@
 use Rattle.storage_engine.specs.Steps.{Step, IsClosedFront, Synced}
-use Rattle.storage_engine.proofs.Every.{CalmBelow}
+use Rattle.ports.proofs.InTurn.{CalmBelow}
 use Rattle.storage_engine.proofs.each_device.sync_all.Given as goal
 
 abbrev pub invariant-loop-e : goal.invariant-loop-e

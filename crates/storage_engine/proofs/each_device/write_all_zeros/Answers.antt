@@ -3,7 +3,8 @@ use Rattle.std.proofs.lemmas.Grind.{common_steps}
 use Rattle.store_model.specs.Slots
 use Rattle.store_reader.specs.Reading.{own_in}
 use Rattle.storage_engine.specs.Steps.{Anything, Step, HoldsExactly}
-use Rattle.storage_engine.proofs.Every.{none_yet, each_next, next_done, each_same}
+use Rattle.ports.proofs.InTurn.{none_yet, each_next, next_done}
+use Rattle.storage_engine.proofs.Every.{each_same}
 use Rattle.storage_engine.proofs.each_device.write_all_zeros.Goals as goal
 
 pub loop-e-init : goal.loop-e-init

@@ -2,7 +2,7 @@ use Rattle.std.proofs.Common.{replicate}
 use Rattle.store_model.specs.Slots
 use Rattle.store_reader.specs.Reading.{own_in}
 use Rattle.storage_engine.specs.Steps.{Anything, Step, HoldsExactly}
-use Rattle.storage_engine.proofs.Every.{CalmBelow}
+use Rattle.ports.proofs.InTurn.{CalmBelow}
 use Rattle.storage_engine.proofs.each_device.write_all_zeros.Given as goal
 
 abbrev pub invariant-loop-e : goal.invariant-loop-e

@@ -1,6 +1,6 @@
 use Rattle.store_model.specs.Heads.{IsShutGraph, front}
 use Rattle.storage_engine.specs.Steps.{Step, HoldsExactly}
-use Rattle.storage_engine.proofs.Every.{CalmBelow}
+use Rattle.ports.proofs.InTurn.{CalmBelow}
 use Rattle.storage_engine.proofs.each_device.write_fronts.Given as goal
 
 abbrev pub invariant-loop-e : goal.invariant-loop-e

@@ -1,7 +1,7 @@
 use Rattle.std.proofs.Common.{[], ◌∷◌}
 use Rattle.store_model.specs.Heads
 use Rattle.storage_engine.specs.Steps.{Step, IsClosedFront, Appended}
-use Rattle.storage_engine.proofs.Every.{CalmBelow}
+use Rattle.ports.proofs.InTurn.{CalmBelow}
 use Rattle.storage_engine.proofs.each_device.write_marks.Given as goal
 
 abbrev pub invariant-loop-e : goal.invariant-loop-e
