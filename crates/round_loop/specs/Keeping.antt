@@ -1,5 +1,5 @@
 -- What a run leaves as it was, and all that it is handed at one moment.
-use Rattle.std.specs.Prelude.{◌≡◌, ℕ, ◌<◌, ◌≤◌, Some, List, Vec, length, slice_index_or}
+use Rattle.std.specs.Prelude.{◌≡◌, ℕ, List, Vec}
 use Rattle.std.specs.Global.{Global}
 use Rattle.ports.specs.Disk.{DiskState, Continues}
 use Rattle.ports.specs.Devices.{Each, EachRow}

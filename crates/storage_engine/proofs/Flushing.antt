@@ -1,7 +1,7 @@
 -- What waits is written, partition by partition; and how a maker begins.
 use Rattle.std.proofs.Common.{◌≡◌, ◌∙◌, ℕ, suc, ◌+◌, ◌*◌, ◌<◌, ◌≤◌, List, [], ◌∷◌, ◌++◌, length, flat_map, replicate, take, Option, Some, None, IfSome, get_or, set, true, refl, ap, sym, subst, arith}
 use Rattle.std.specs.List.{All, range_with_len}
-use Rattle.std.proofs.lemmas.List.{take_more, append-nil, append_assoc, length-replicate, get_or-replicate, get_or-set_other, length-set}
+use Rattle.std.proofs.lemmas.List.{nil_from_length, take_more, append-nil, append_assoc, length-replicate, get_or-replicate, get_or-set_other, length-set}
 use Rattle.std.proofs.lemmas.List.Folds.{sum_by-replicate}
 use Rattle.std.proofs.lemmas.List.Elements.{All-nil}
 use Rattle.graph_model.specs.declared.edge.Edge.{Edge}
@@ -58,16 +58,12 @@ chunk_of_some : (p : ℕ) (items : List Edge) → 0 < length items → chunk_of 
 chunk_of_some p [] some = absurd (omega arith)
 chunk_of_some p (x ∷ xs) some = refl
 
-empty_list : (items : List Edge) → length items ≡ 0 → items ≡ []
-empty_list [] none = refl
-empty_list (x ∷ xs) none = absurd (omega arith)
-
 -- nothing waited
 pub rest_skipped : {X : Type 0} (state : X → DiskState) (job : Job) (edges : List Edge) (i : ℕ) (before buffers : List (List Edge)) (placer placer0 : Placing) (index index0 : List (List Place)) (graphs graphs0 : List X)
     → IsMaking state job edges before placer0 index0 graphs0 → i < parts_of job → RestWritten state job edges i before buffers placer index graphs → length (waiting buffers i) ≡ 0
     → RestWritten state job edges (i + 1) before buffers placer index graphs
 rest_skipped state job edges i before buffers placer placer0 index index0 graphs graphs0 making below written none =
-    let left : left_over job.chunk (home_of job) edges i ≡ [] = sym (making.holds.hold i below) ∙ sym (written.rest i (omega arith)) ∙ empty_list (waiting buffers i) none in
+    let left : left_over job.chunk (home_of job) edges i ≡ [] = sym (making.holds.hold i below) ∙ sym (written.rest i (omega arith)) ∙ nil_from_length (waiting buffers i) none in
     let same = next_rests job edges i [] (ap (chunk_of i) left) ∙ append-nil (full_chunks job.chunk (home_of job) [] edges ++ rests_below job edges i) in
     record {
       made = subst (λ cs. HasMade state job cs placer index graphs) (sym same) written.made;

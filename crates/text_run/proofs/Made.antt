@@ -84,7 +84,7 @@ module _ {D M : Type 0} (state : D → DiskState) (job : Job) (well : IsWellForm
     graph_told : (e : ℕ) (d : D) → e < job.engines → (state (get_or new.graphs.items e d)).bytes ≡ Some (graph job prepares.made.0 e)
     graph_told e d below =
         let before = tells.graphs.told e d (omega (arith, below, ready.graphs.all)) in
-        let after = (store_made state job text left number now read old new (Ok index) prepares lanes_kept spills_kept meters seat ready).graphs.told e d (get_or told e []) (omega (arith, below, ready.graphs.all)) before in
+        let after = ((store_made state job text left number now read old new (Ok index) prepares lanes_kept spills_kept meters seat ready).graphs.each e d (omega (arith, below, ready.graphs.all))).told (get_or told e []) before in
         exactly (state (get_or new.graphs.items e d)).bytes (graph job prepares.made.0 e) after.0 (prepares.made.1.devices e d below).read after.1
 
     pub has_edges : HasEdges state job (split_for job) index new.graphs.items prepares.made.0
@@ -97,15 +97,15 @@ module _ {D M : Type 0} (state : D → DiskState) (job : Job) (well : IsWellForm
           values = λ e d below.
               let here : e < length old.values.items = omega (arith, below, later.values.many) in
               let before = tells.others.values e d here in
-              later.values.told e d before.0 here before.1;
+              (later.values.each e d here).told before.0 before.1;
           lanes = λ w row below e d within.
               let row_here : w < length old.lanes.items = omega (arith, below, later.lanes.many) in
               let same = later.lanes.each w row row_here in
               let here : e < length (get_or old.lanes.items w row).items = omega (arith, within, same.many) in
               let before = tells.others.lanes w row row_here e d here in
-              same.told e d before.0 here before.1;
+              (same.each e d here).told before.0 before.1;
           spills = λ e d below.
               let here : e < length old.spills.items = omega (arith, below, later.spills.many) in
               let before = tells.others.spills e d here in
-              later.spills.told e d before.0 here before.1;
+              (later.spills.each e d here).told before.0 before.1;
         }

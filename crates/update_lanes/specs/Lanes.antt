@@ -1,5 +1,5 @@
 -- What a worker's lanes hold, and what calls make of them.
-use Rattle.std.specs.Prelude.{◌≡◌, ℕ, ◌+◌, ◌*◌, ◌==◌, ◌<◌, ◌≤◌, List, [], ◌∷◌, ◌++◌, length, slice_index_or, count_by, Some, IfSome}
+use Rattle.std.specs.Prelude.{◌≡◌, ℕ, ◌+◌, ◌*◌, ◌==◌, ◌<◌, ◌≤◌, List, [], ◌∷◌, ◌++◌, length, slice_index_or, count_by, IfSome}
 use Rattle.std.specs.List.{All}
 use Rattle.graph_model.specs.declared.value.Update.{Update}
 use Rattle.ports.specs.Disk.{DiskState, ContinuesUnder}

@@ -9,14 +9,14 @@ use Rattle.store_model.specs.Heads.{IsShutGraph}
 use Rattle.ports.specs.Stops.{Empties}
 use Rattle.restart.specs.Dropping.{Closes}
 use Rattle.std.proofs.lemmas.Result.{on_err_weaker}
-use Rattle.restart.proofs.Devices.{given_back}
+use Rattle.restart.proofs.Devices.{holds_given_back}
 use Rattle.restart.proofs.Dropped.{graphs_dropped, graphs_closed, all_values_emptied, all_values_kept, stops_of_drop, rose_later}
 use Rattle.restart.proofs.dropping.drop_store.Goals as goal
 
 pub returns-in_err-close_all-clause-graphs : goal.returns-in_err-close_all-clause-graphs
 returns-in_err-close_all-clause-graphs g c =
     let graphs = c.args.store.now.graphs in
-    let closes = given_back (Each g.D.Disk.state (Closes c.args.beat.now)) graphs c.deref_mut.result.now c.close_all.new.graphs c.deref_mut.ensures.value c.close_all.ensures.closes.many c.close_all.ensures.closes in
+    let closes = holds_given_back (Each g.D.Disk.state (Closes c.args.beat.now)) graphs c.deref_mut.result.now c.close_all.new.graphs c.deref_mut.ensures.value c.close_all.ensures.closes.many c.close_all.ensures.closes in
     graphs_closed g.D.Disk.state c.args.beat.now graphs.items (with_items graphs c.close_all.new.graphs).items closes
 
 pub returns-in_err-close_all-clause-values : goal.returns-in_err-close_all-clause-values
@@ -37,7 +37,7 @@ returns-in_err-close_all-clause-cause g c =
     on_err c.from_residual.result
     (elim c.in_err-close_all.ensures.cause [
       | inl rose ↦ inl rose
-      | inr rose ↦ inr (inl (given_back (OneRose g.D.Disk.state) c.args.store.now.graphs c.deref_mut.result.now c.close_all.new.graphs c.deref_mut.ensures.value c.close_all.ensures.closes.many rose))
+      | inr rose ↦ inr (inl (holds_given_back (OneRose g.D.Disk.state) c.args.store.now.graphs c.deref_mut.result.now c.close_all.new.graphs c.deref_mut.ensures.value c.close_all.ensures.closes.many rose))
     ])
 
 pub returns-clause-graphs : goal.returns-clause-graphs
@@ -46,8 +46,8 @@ returns-clause-graphs g c =
     let graphs = c.args.store.now.graphs in
     let mids = (with_items graphs c.close_all.new.graphs).items in
     let many = c.close_all.ensures.closes.many in
-    let closes = given_back (Each g.D.Disk.state (Closes c.args.beat.now)) graphs c.deref_mut.result.now c.close_all.new.graphs c.deref_mut.ensures.value many c.close_all.ensures.closes in
-    let shut = given_back (λ olds news. All (λ disk. InEveryImage (g.D.Disk.state disk) IsShutGraph) news) graphs c.deref_mut.result.now c.close_all.new.graphs c.deref_mut.ensures.value many c.in_ok-close_all.ensures.shut in
+    let closes = holds_given_back (Each g.D.Disk.state (Closes c.args.beat.now)) graphs c.deref_mut.result.now c.close_all.new.graphs c.deref_mut.ensures.value many c.close_all.ensures.closes in
+    let shut = holds_given_back (λ olds news. All (λ disk. InEveryImage (g.D.Disk.state disk) IsShutGraph) news) graphs c.deref_mut.result.now c.close_all.new.graphs c.deref_mut.ensures.value many c.in_ok-close_all.ensures.shut in
     let empties = subst (λ n. Each g.D.Disk.state (Empties n) mids c.empty_store.new.store.graphs.items) c.next.ensures c.empty_store.ensures.graphs in
     graphs_dropped g.D.Disk.state c.args.beat.now c.next.new.self graphs.items mids c.empty_store.new.store.graphs.items disks.lawful c.requires.graph_beats closes shut empties
 
@@ -70,7 +70,7 @@ pub returns-clause-cause : goal.returns-clause-cause
 returns-clause-cause g c =
     let graphs = c.args.store.now.graphs in
     let mids = (with_items graphs c.close_all.new.graphs).items in
-    let closes = given_back (Each g.D.Disk.state (Closes c.args.beat.now)) graphs c.deref_mut.result.now c.close_all.new.graphs c.deref_mut.ensures.value c.close_all.ensures.closes.many c.close_all.ensures.closes in
+    let closes = holds_given_back (Each g.D.Disk.state (Closes c.args.beat.now)) graphs c.deref_mut.result.now c.close_all.new.graphs c.deref_mut.ensures.value c.close_all.ensures.closes.many c.close_all.ensures.closes in
     on_err_weaker c.empty_store.result
     (λ rose. elim rose [
       | inl first ↦ inr (inl (rose_later g.D.Disk.state c.args.beat.now graphs.items mids c.empty_store.new.store.graphs.items closes first))
