@@ -42,7 +42,7 @@ returns-in-Ok-clause-resume g c text read_faults =
     } in
     let goes_on =
     subst (λ (from : Job × List (List Place) × Start). GoesOn g.D.Disk.state faults from.0 from.2 from.1 (record call { before = moment c.args.store.now (slice_set meters k c.recover.new.meter) c.args.seat.now.view c.args.beat.now }) end.result)
-    c.start_from.ensures (end.ensures.goes_on text read_faults) in
+    c.start_from-index.ensures (end.ensures.goes_on text read_faults) in
     resumed_as g.D.Disk.state disks.lawful faults call (slice_set meters k c.recover.new.meter) k read.found read.ensures.formed
     (read.ensures.engines ∙ c.requires.ready.graphs.all) c.requires.ready
     (meters_after faults meters k below c.index_mut.result.now c.recover.new.meter c.index_mut.ensures.value read.ensures.later)
